@@ -1,0 +1,5 @@
+pub mod Members
+pub mod Sets
+pub mod Below
+pub mod Laws
+pub mod Faults
