@@ -3,3 +3,4 @@ pub mod Sets
 pub mod Below
 pub mod Laws
 pub mod Faults
+pub mod Choices

@@ -1,12 +1,16 @@
 // Sets of at most sixteen replicas, the rules by which a part carries a set, and the fault that all layers share.
+mod choice;
 mod count;
 mod fault;
 mod generic;
 mod iter;
 mod rule;
 mod set;
+mod show;
 mod weights;
 
+pub use choice::ChosenQuorum;
+pub use choice::ChosenRule;
 pub use count::CountQuorum;
 pub use count::CountRule;
 pub use fault::Failure;
@@ -23,5 +27,6 @@ pub use rule::QuorumRule;
 pub use set::ReplicaSet;
 pub use set::ReplicaSetDebug;
 pub use set::ReplicaSetPartialEq;
+pub use show::ReplicaSetDisplay;
 pub use weights::WeightQuorum;
 pub use weights::WeightRule;
