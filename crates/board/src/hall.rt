@@ -63,7 +63,12 @@ impl Hall {
         Ok(())
     }
 
-    fn tell<W: Write>(&mut self, number: u64, answer: Result<(), Fault>, out: &mut W) -> io::Result<()> {
+    fn tell<W: Write>(
+        &mut self,
+        number: u64,
+        answer: Result<(), Fault>,
+        out: &mut W,
+    ) -> io::Result<()> {
         match answer {
             Ok(()) => {
                 self.accepted = self.accepted.saturating_add(1);
@@ -81,6 +86,9 @@ impl Hall {
         let accepted = self.accepted;
         let refused = self.refused;
         writeln!(out, "account")?;
-        writeln!(out, "  calls {calls}, accepted {accepted}, refused {refused}")
+        writeln!(
+            out,
+            "  calls {calls}, accepted {accepted}, refused {refused}"
+        )
     }
 }

@@ -172,10 +172,10 @@ pub lowest-member : (s m : ℕ) → lowest s ≡ Some m → (m < 16) × (has s m
 lowest-member s m e =
     ⊎-elim (λ n. absurd (let o = n .0 in let z : _≡_ {A = ℕ} 0 1 = cc in omega arith))
     (λ n. let i = n .2 in
-      let q = some-is (has s (i .place)) (i .place) (n .0) (i .offers) in
-      let same : n .0 ≡ m = let o = n .1 in cc in
-      let at : i .place ≡ m = q .1 ∙ same in
-      (omega (arith, i .below), ap (has s) (sym at) ∙ q .0, λ k l. none-is (has s k) k (i .earlier k (omega arith))))
+    let q = some-is (has s (i .place)) (i .place) (n .0) (i .offers) in
+    let same : n .0 ≡ m = let o = n .1 in cc in
+    let at : i .place ≡ m = q .1 ∙ same in
+    (omega (arith, i .below), ap (has s) (sym at) ∙ q .0, λ k l. none-is (has s k) k (i .earlier k (omega arith))))
     (first-cases (if-member s) 16)
 
 -- a set with a member has a lowest

@@ -98,12 +98,14 @@ pub enum Failure {
 
 pub impl fmt::Display for Layer as LayerDisplay {
     fn fmt<W: fmt::Write>(&self, f: &mut fmt::Formatter<W>) -> fmt::Result {
-        f.write_str(match self {
-            Layer::Store => "store",
-            Layer::Rule => "rule",
-            Layer::Manager => "manager",
-            Layer::Floor => "floor",
-        })
+        f.write_str(
+            match self {
+                Layer::Store => "store",
+                Layer::Rule => "rule",
+                Layer::Manager => "manager",
+                Layer::Floor => "floor",
+            },
+        )
     }
 }
 

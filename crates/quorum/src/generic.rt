@@ -9,7 +9,12 @@ use super::rule::QuorumRule;
 use super::set::ReplicaSet;
 
 // Where both parts carry the set, the lowest member of the set that is in both: by the laws of the rule there is one.
-pub fn meeting<R: QuorumRule>(rule: &R, one: ReplicaSet, other: ReplicaSet, set: ReplicaSet) -> Option<u8>
+pub fn meeting<R: QuorumRule>(
+    rule: &R,
+    one: ReplicaSet,
+    other: ReplicaSet,
+    set: ReplicaSet,
+) -> Option<u8>
     ensures value { λ r. ⌜ r ≡ cond (carries (now (rule .entry)) (one .0) (set .0) && carries (now (rule .entry)) (other .0) (set .0)) (lowest-of (both (both (one .0) (other .0)) (set .0))) None ⌝ }
     ensures meets { λ r. ⌜ isSome r ≡ (carries (now (rule .entry)) (one .0) (set .0) && carries (now (rule .entry)) (other .0) (set .0)) ⌝ }
 {

@@ -1,1 +1,4 @@
 pub mod Same
+pub mod Kept
+pub mod Pages
+pub mod Reading

@@ -1,1 +1,5 @@
 pub mod Views
+pub mod Rules
+pub mod Facts
+pub mod Kept
+pub mod Writings

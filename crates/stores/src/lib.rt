@@ -1,13 +1,25 @@
 // Views and pages, the rules that pages keep, and the stores that keep pages.
+mod held;
 mod page;
+mod replay;
+mod rules;
+mod store;
 mod view;
+mod writing;
 
+pub use held::HeldBreakable;
+pub use held::HeldPages;
+pub use held::HeldStore;
 pub use page::Mode;
 pub use page::ModeDebug;
 pub use page::ModePartialEq;
 pub use page::Page;
 pub use page::PageDebug;
 pub use page::PagePartialEq;
+pub use replay::carry_out;
+pub use replay::carry_out_held;
+pub use store::Breakable;
+pub use store::Store;
 pub use view::Head;
 pub use view::HeadDebug;
 pub use view::HeadPartialEq;
@@ -23,3 +35,4 @@ pub use view::StampPartialEq;
 pub use view::View;
 pub use view::ViewDebug;
 pub use view::ViewPartialEq;
+pub use writing::Writing;
