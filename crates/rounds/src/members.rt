@@ -1,0 +1,94 @@
+// Members of a view by what they reported.
+ghost use mathlib.Core.Path.{_≡_};
+ghost use Prim.Native.Nat.{ℕ, _+_, _<_};
+ghost use Rattle.rounds.specs.Reports.{reported, says};
+ghost use Rattle.rounds.specs.Members.{members-that, holders, clear-members, level-members, any-mark-above, backed, Backed};
+use super::report::Claim;
+use super::report::Report;
+use quorum::QuorumRule;
+use quorum::ReplicaSet;
+use stores::Number;
+use stores::Recorded;
+use stores::View;
+
+// What replica `q` reported.
+fn reported(reports: &[Option<Report>; 16], q: u8) -> Option<Report>
+    requires { ⌜ q < 16 ⌝ }
+    ensures { λ r. ⌜ r ≡ reported (now (reports .entry)) q ⌝ }
+{
+    reports[q as usize]
+}
+
+// The members of the view whose reports say so.
+fn members_that(claim: Claim, reports: &[Option<Report>; 16], view: View) -> ReplicaSet
+    ensures { λ r. ⌜ r .0 ≡ members-that (says view claim) (now (reports .entry)) view ⌝ }
+{
+    let mut found = ReplicaSet::EMPTY;
+    for q in 0..16u8 {
+        let Some(report) = reported(reports, q) else {
+            continue;
+        };
+        if view.set.contains(q) && report.says(view, claim) {
+            found = found.with(q);
+        }
+    }
+    found
+}
+
+// Those at the view with this recorded.
+pub fn holders(reports: &[Option<Report>; 16], view: View, recorded: Recorded) -> ReplicaSet
+    ensures { λ r. ⌜ r .0 ≡ holders (now (reports .entry)) view recorded ⌝ }
+{
+    members_that(Claim::Holds(recorded), reports, view)
+}
+
+// Those that are clear of what comes after the view.
+pub fn clear_members(reports: &[Option<Report>; 16], view: View) -> ReplicaSet
+    ensures { λ r. ⌜ r .0 ≡ clear-members (now (reports .entry)) view ⌝ }
+{
+    members_that(Claim::Clear, reports, view)
+}
+
+// Those at the view or clear.
+pub fn level_members(reports: &[Option<Report>; 16], view: View) -> ReplicaSet
+    ensures { λ r. ⌜ r .0 ≡ level-members (now (reports .entry)) view ⌝ }
+{
+    members_that(Claim::Level, reports, view)
+}
+
+// Somebody's mark exceeds the number after this one.
+pub fn any_marked_past(reports: &[Option<Report>; 16], number: Number) -> bool
+    ensures { λ b. ⌜ b ≡ any-mark-above (now (reports .entry)) (number .0 + 1) ⌝ }
+{
+    for q in 0..16u8 {
+        let Some(report) = reported(reports, q) else {
+            continue;
+        };
+        if report.is_marked_past(number) {
+            return true;
+        }
+    }
+    false
+}
+
+// What was recorded by so many members of the view that they carry it.
+pub fn backed<R: QuorumRule>(
+    rule: &R,
+    reports: &[Option<Report>; 16],
+    view: View,
+) -> Option<Recorded>
+    ensures { λ r. ⌜ r ≡ backed (carries (now (rule .entry))) (now (reports .entry)) view ⌝ }
+{
+    for q in 0..16u8 {
+        let Some(report) = reported(reports, q) else {
+            continue;
+        };
+        let Some(recorded) = report.recorded else {
+            continue;
+        };
+        if rule.carries(holders(reports, view, recorded), view.set) {
+            return Some(recorded);
+        }
+    }
+    None
+}
