@@ -1,8 +1,8 @@
 // Members of a view by what they reported.
 ghost use mathlib.Core.Path.{_≡_};
-ghost use Prim.Native.Nat.{ℕ, _+_, _<_};
+ghost use Prim.Native.Nat.{_+_, _<_};
 ghost use Rattle.rounds.specs.Reports.{reported, says};
-ghost use Rattle.rounds.specs.Members.{members-that, holders, clear-members, level-members, any-mark-above, backed, Backed};
+ghost use Rattle.rounds.specs.Members.{members-that, holders, clear-members, level-members, any-mark-above, backed};
 use super::report::Claim;
 use super::report::Report;
 use quorum::QuorumRule;
@@ -36,28 +36,28 @@ fn members_that(claim: Claim, reports: &[Option<Report>; 16], view: View) -> Rep
 }
 
 // Those at the view with this recorded.
-pub fn holders(reports: &[Option<Report>; 16], view: View, recorded: Recorded) -> ReplicaSet
+pub(crate) fn holders(reports: &[Option<Report>; 16], view: View, recorded: Recorded) -> ReplicaSet
     ensures { λ r. ⌜ r .0 ≡ holders (now (reports .entry)) view recorded ⌝ }
 {
     members_that(Claim::Holds(recorded), reports, view)
 }
 
 // Those that are clear of what comes after the view.
-pub fn clear_members(reports: &[Option<Report>; 16], view: View) -> ReplicaSet
+pub(crate) fn clear_members(reports: &[Option<Report>; 16], view: View) -> ReplicaSet
     ensures { λ r. ⌜ r .0 ≡ clear-members (now (reports .entry)) view ⌝ }
 {
     members_that(Claim::Clear, reports, view)
 }
 
 // Those at the view or clear.
-pub fn level_members(reports: &[Option<Report>; 16], view: View) -> ReplicaSet
+pub(crate) fn level_members(reports: &[Option<Report>; 16], view: View) -> ReplicaSet
     ensures { λ r. ⌜ r .0 ≡ level-members (now (reports .entry)) view ⌝ }
 {
     members_that(Claim::Level, reports, view)
 }
 
 // Somebody's mark exceeds the number after this one.
-pub fn any_marked_past(reports: &[Option<Report>; 16], number: Number) -> bool
+pub(crate) fn any_marked_past(reports: &[Option<Report>; 16], number: Number) -> bool
     ensures { λ b. ⌜ b ≡ any-mark-above (now (reports .entry)) (number .0 + 1) ⌝ }
 {
     for q in 0..16u8 {
@@ -72,7 +72,7 @@ pub fn any_marked_past(reports: &[Option<Report>; 16], number: Number) -> bool
 }
 
 // What was recorded by so many members of the view that they carry it.
-pub fn backed<R: QuorumRule>(
+pub(crate) fn backed<R: QuorumRule>(
     rule: &R,
     reports: &[Option<Report>; 16],
     view: View,

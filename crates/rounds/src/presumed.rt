@@ -26,7 +26,7 @@ fn higher(found: Option<View>, report: &Option<Report>) -> Option<View>
 }
 
 // The highest component view; where its number comes with several sets, the lowest sender's.
-pub fn presumed(reports: &[Option<Report>; 16]) -> Option<View>
+pub(crate) fn presumed(reports: &[Option<Report>; 16]) -> Option<View>
     ensures is { λ r. ⌜ r ≡ presumed (now (reports .entry)) ⌝ }
     ensures highest { λ r. ⌜ Highest (now (reports .entry)) 16 r ⌝ }
 {

@@ -26,7 +26,7 @@ pub struct Report {
 
 // What a report may say of a view.
 #[derive(Clone, Copy)]
-pub enum Claim {
+pub(crate) enum Claim {
     Holds(Recorded),
     Clear,
     Level,
@@ -63,17 +63,11 @@ impl Report {
         self.is_at(view) && own.is(recorded)
     }
 
-    // At the view with nothing recorded, or never marked above it.
+    // At the view with nothing recorded, or with a mark that is absent or at most the view's number.
     fn is_clear(&self, view: View) -> bool
         ensures { λ b. ⌜ b ≡ clear view (now (self .entry)) ⌝ }
     {
-        if self.recorded.is_none() && self.is_at(view) {
-            return true;
-        }
-        let Some(mark) = self.mark else {
-            return true;
-        };
-        mark.0 <= view.number.0
+        self.is_at(view) && self.recorded.is_none() || !self.is_marked_above(view.number)
     }
 
     // At the view, or clear of it.
@@ -83,7 +77,17 @@ impl Report {
         self.is_at(view) || self.is_clear(view)
     }
 
-    // Its mark exceeds the number after this one.
+    // Its mark exceeds this number.
+    fn is_marked_above(&self, number: Number) -> bool
+        ensures { λ b. ⌜ b ≡ marked-above (number .0) (now (self .entry)) ⌝ }
+    {
+        let Some(mark) = self.mark else {
+            return false;
+        };
+        number.0 < mark.0
+    }
+
+    // Its mark exceeds the number after this one. Any number may be reported, so the sum has room of its own.
     pub(crate) fn is_marked_past(&self, number: Number) -> bool
         ensures { λ b. ⌜ b ≡ marked-above (number .0 + 1) (now (self .entry)) ⌝ }
     {
