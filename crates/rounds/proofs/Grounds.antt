@@ -79,9 +79,9 @@ module _ (f : ℕ → ℕ → Bool) (h : Head) (rs : List (Option Report)) where
   -- ---- what settles it
   module _ (grows : Grows f) (meets : Meets f) where
     -- all those who are such do not carry the view, so no part of them does
-    uncarried : (v : View) (all : ℕ) (P : ℕ → Type 0) → ((q : ℕ) → q < 16 → Decides (has all q) (P q)) → f all (v .set .0) ≡ false → Uncarried f v P
+    uncarried : (v : View) (all : ℕ) (P : ℕ → Type 0) → ((q : ℕ) → Decides (has all q) (P q)) → f all (v .set .0) ≡ false → Uncarried f v P
     uncarried v all P d none p such =
-        ⊎-elim (λ c. absurd (both-ways _ none (grows p all (v .set .0) (λ q l m i. d q l .1 (such q l m i)) c))) (λ c. c) (cases-bool (f p (v .set .0)))
+        ⊎-elim (λ c. absurd (both-ways _ none (grows p all (v .set .0) (λ q l m i. d q .1 (such q l m i)) c))) (λ c. c) (cases-bool (f p (v .set .0)))
 
     unheld : (v : View) → ((s : Recorded) → f (holders rs v s) (v .set .0) ≡ false) → (s : Recorded) → Uncarried f v (Holder rs v s)
     unheld v none s = uncarried v (holders rs v s) (Holder rs v s) (holder rs v s) (none s)
@@ -93,21 +93,21 @@ module _ (f : ℕ → ℕ → Bool) (h : Head) (rs : List (Option Report)) where
     each-level : (v : View) → all-level h rs v ≡ true → (q : ℕ) → q < 16 → has (v .set .0) q ≡ true → (has (h .set .0) q ≡ true) × LevelMember rs v q
     each-level v a q l m =
         let p = and-parts (within (v .set .0) (h .set .0)) _ a in
-        (within-members (v .set .0) (h .set .0) (p .0) q l m, level-member rs v q l .0 (within-members (v .set .0) (level-members rs v) (p .1) q l m))
+        (within-members (v .set .0) (h .set .0) (p .0) q l m, level-member rs v q .0 (within-members (v .set .0) (level-members rs v) (p .1) q l m))
 
     level-from : (v : View) → ((q : ℕ) → q < 16 → has (v .set .0) q ≡ true → (has (h .set .0) q ≡ true) × LevelMember rs v q) → all-level h rs v ≡ true
     level-from v all =
         and-from _ _ (within-from (v .set .0) (h .set .0) (λ q l m. all q l m .0))
-        (within-from (v .set .0) (level-members rs v) (λ q l m. level-member rs v q l .1 (all q l m .1)))
+        (within-from (v .set .0) (level-members rs v) (λ q l m. level-member rs v q .1 (all q l m .1)))
 
     settled : (v : View) (o : Option Recorded) → Backed f rs v o → Standing f h rs v → Ends (unless-held f h o (clear-or-all f h rs v))
     settled v (Some s) b st =
         cond-both (f (h .set .0) (s .view .set .0)) (SettledByHolders, Some (s .view)) (Undecided, None) Ends
-        (λ e. record { view = v; standing = st; recorded = s; is = refl; part = holders rs v s; holds = λ q l. holder rs v s q l .0; carries = b .0; in-round = e })
+        (λ e. record { view = v; standing = st; recorded = s; is = refl; part = holders rs v s; holds = λ q. holder rs v s q .0; carries = b .0; in-round = e })
         (λ e. (refl, v, st, inl (record { recorded = s; carries = b .0; apart = e })))
     settled v None b st =
         cond-both (f (clear-members rs v) (v .set .0)) (SettledByClear, Some v) _ Ends
-        (λ e. record { standing = st; part = clear-members rs v; clear = λ q l. clear-member rs v q l .0; carries = e; unheld = unheld v b })
+        (λ e. record { standing = st; part = clear-members rs v; clear = λ q. clear-member rs v q .0; carries = e; unheld = unheld v b })
         (λ e. cond-both (all-level h rs v) (SettledByAll, Some v) (Undecided, None) Ends
         (λ a. record { standing = st; in-round = λ q l m. each-level v a q l m .0; level = λ q l m. each-level v a q l m .1; unheld = unheld v b; unclear = unclear v e })
         (λ a. (refl, v, st, inr (record { unheld = unheld v b; unclear = unclear v e; missing = λ all. both-ways _ a (level-from v all) }))))
@@ -140,7 +140,7 @@ module _ (f : ℕ → ℕ → Bool) (h : Head) (rs : List (Option Report)) where
 
     unbacked : (v : View) → ((s : Recorded) → Uncarried f v (Holder rs v s)) → (o : Option Recorded) → Backed f rs v o → o ≡ None
     unbacked v u None b = refl
-    unbacked v u (Some s) b = absurd (both-ways _ (u s (holders rs v s) (λ q l m i. holder rs v s q l .0 i)) (b .0))
+    unbacked v u (Some s) b = absurd (both-ways _ (u s (holders rs v s) (λ q l m i. holder rs v s q .0 i)) (b .0))
 
     at-held : (v : View) (s : Recorded) → Standing f h rs v → f (holders rs v s) (v .set .0) ≡ true →
         decided f h rs ≡ cond (f (h .set .0) (s .view .set .0)) (SettledByHolders, Some (s .view)) (Undecided, None)
@@ -150,12 +150,12 @@ module _ (f : ℕ → ℕ → Bool) (h : Head) (rs : List (Option Report)) where
     at-unheld v st u = at-standing v None st (unbacked v u (backed f rs v) (backed-only rs v f meets))
 
     -- a part of such members carries, so all of them do
-    carried : (v : View) (all : ℕ) (P : ℕ → Type 0) → ((q : ℕ) → q < 16 → Decides (has all q) (P q)) → (p : ℕ) →
-        ((q : ℕ) → q < 16 → has p q ≡ true → P q) → f p (v .set .0) ≡ true → f all (v .set .0) ≡ true
-    carried v all P d p such c = grows p all (v .set .0) (λ q l m i. d q l .1 (such q l i)) c
+    carried : (v : View) (all : ℕ) (P : ℕ → Type 0) → ((q : ℕ) → Decides (has all q) (P q)) → (p : ℕ) →
+        ((q : ℕ) → has p q ≡ true → P q) → f p (v .set .0) ≡ true → f all (v .set .0) ≡ true
+    carried v all P d p such c = grows p all (v .set .0) (λ q l m i. d q .1 (such q i)) c
 
     not-clear : (v : View) → Uncarried f v (ClearMember rs v) → f (clear-members rs v) (v .set .0) ≡ false
-    not-clear v u = u (clear-members rs v) (λ q l m i. clear-member rs v q l .0 i)
+    not-clear v u = u (clear-members rs v) (λ q l m i. clear-member rs v q .0 i)
 
     not-all : (v : View) → Unsettled f h rs v → all-level h rs v ≡ false
     not-all v u = ⊎-elim (λ a. absurd (u .missing (each-level v a))) (λ a. a) (cases-bool (all-level h rs v))

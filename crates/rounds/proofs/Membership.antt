@@ -9,13 +9,13 @@ use lib.Dec.{ltb}
 use Rattle.std.specs.declared.option.Option.{Option}
 use Rattle.std.specs.declared.option.Option.the-variants.{Some, None}
 use Rattle.std.specs.Orderings.{Decides}
-use Rattle.std.proofs.shelf.Tests.{cases-bool, not-true, not-from-false, false≢true, ltb-false, le-ltb, lt-ltb, cond-true, cond-false}
-use Rattle.std.proofs.shelf.Ways.{decides-at, decides-like, decides-and, decides-or}
+use Rattle.std.proofs.shelf.Tests.{cases-bool, not-true, not-from-false, false≢true, ltb-true, ltb-false, and-parts, and-from, le-ltb, lt-ltb, cond-true, cond-false}
+use Rattle.std.proofs.shelf.Ways.{decides-like, decides-and, decides-or}
 use Rattle.quorum.specs.Below.{select}
 use Rattle.quorum.specs.Members.{has}
 use Rattle.quorum.specs.Sets.{either, single}
 use Rattle.quorum.specs.Laws.{Meets}
-use Rattle.quorum.proofs.Below.{select-more-yes, select-has, first-cases, any-none, any-none-from}
+use Rattle.quorum.proofs.Below.{select-more-yes, select-members, first-cases, any-none, any-none-from}
 use Rattle.stores.proofs.Same.{decides-view, decides-recorded}
 use Rattle.stores.specs.declared.view.Number.{Number}
 use Rattle.stores.specs.declared.view.Recorded.{Recorded}
@@ -68,28 +68,39 @@ is-level v r = decides-or (at-view v r) (clear v r) (at-is v r) (is-clear v r)
 -- ---- the members
 module _ (rs : List (Option Report)) (v : View) where
   -- q is a member, and reported something of which P is true
-  said : (p : Report → Bool) (P : Report → Type 0) → ((r : Report) → Decides (p r) (P r)) → (q : ℕ) → q < 16 →
-      Decides (has (members-that p rs v) q) ((has (v .set .0) q ≡ true) × ((r : Report) × (reported rs q ≡ Some r) × P r))
-  said p P d q l =
-      decides-at _ _ (select-has (member-that p rs v) 16 q l)
-      (decides-and (has (v .set .0) q) (present p (reported rs q)) (λ e. e, λ e. e)
-      (λ e. let s = present-some p (reported rs q) e in (s .0, s .1, d (s .0) .0 (s .2)), λ s. ap (present p) (s .1) ∙ d (s .0) .1 (s .2)))
+  pub record Said (P : Report → Type 0) (q : ℕ) : Type 0 where
+    pub below : q < 16
+    pub member : has (v .set .0) q ≡ true
+    pub report : Report
+    pub sent : reported rs q ≡ Some report
+    pub fact : P report
 
-  pub holder : (s : Recorded) (q : ℕ) → q < 16 → Decides (has (holders rs v s) q) (Holder rs v s q)
-  holder s q l =
-      decides-like _ (λ a. record { member = a .0; report = a .1 .0; sent = a .1 .1; at = a .1 .2 .0; recorded = a .1 .2 .1 })
-      (λ h. (h .member, (h .report, h .sent, (h .at, h .recorded))))
-      (said (holds v s) (λ r. (r .component ≡ Some v) × (r .recorded ≡ Some s)) (λ r. decides-and (at-view v r) _ (at-is v r) (recorded-is s r)) q l)
+  said : (p : Report → Bool) (P : Report → Type 0) → ((r : Report) → Decides (p r) (P r)) → (q : ℕ) → Decides (has (members-that p rs v) q) (Said P q)
+  said p P d q =
+      let law = select-members (member-that p rs v) 16 q in (
+        λ e. let a = and-parts (member-that p rs v q) (ltb q 16) (sym law ∙ e) in
+            let m = and-parts (has (v .set .0) q) (present p (reported rs q)) (a .0) in
+            let s = present-some p (reported rs q) (m .1) in
+            record { below = ltb-true q 16 (a .1); member = m .0; report = s .0; sent = s .1; fact = d (s .0) .0 (s .2) },
+        λ h. law ∙ and-from _ _ (and-from _ _ (h .member) (ap (present p) (h .sent) ∙ d (h .report) .1 (h .fact))) (lt-ltb q 16 (h .below)),
+      )
 
-  pub clear-member : (q : ℕ) → q < 16 → Decides (has (clear-members rs v) q) (ClearMember rs v q)
-  clear-member q l =
-      decides-like _ (λ a. record { member = a .0; report = a .1 .0; sent = a .1 .1; clear = a .1 .2 }) (λ h. (h .member, (h .report, h .sent, h .clear)))
-      (said (clear v) (IsClear v) (is-clear v) q l)
+  pub holder : (s : Recorded) (q : ℕ) → Decides (has (holders rs v s) q) (Holder rs v s q)
+  holder s q =
+      decides-like _ (λ a. record { below = a .below; member = a .member; report = a .report; sent = a .sent; at = a .fact .0; recorded = a .fact .1 })
+      (λ h. record { below = h .below; member = h .member; report = h .report; sent = h .sent; fact = (h .at, h .recorded) })
+      (said (holds v s) (λ r. (r .component ≡ Some v) × (r .recorded ≡ Some s)) (λ r. decides-and (at-view v r) _ (at-is v r) (recorded-is s r)) q)
 
-  pub level-member : (q : ℕ) → q < 16 → Decides (has (level-members rs v) q) (LevelMember rs v q)
-  level-member q l =
-      decides-like _ (λ a. record { member = a .0; report = a .1 .0; sent = a .1 .1; level = a .1 .2 }) (λ h. (h .member, (h .report, h .sent, h .level)))
-      (said (level v) (λ r. (r .component ≡ Some v) ⊎ IsClear v r) (is-level v) q l)
+  pub clear-member : (q : ℕ) → Decides (has (clear-members rs v) q) (ClearMember rs v q)
+  clear-member q =
+      decides-like _ (λ a. record { below = a .below; member = a .member; report = a .report; sent = a .sent; clear = a .fact })
+      (λ h. record { below = h .below; member = h .member; report = h .report; sent = h .sent; fact = h .clear }) (said (clear v) (IsClear v) (is-clear v) q)
+
+  pub level-member : (q : ℕ) → Decides (has (level-members rs v) q) (LevelMember rs v q)
+  level-member q =
+      decides-like _ (λ a. record { below = a .below; member = a .member; report = a .report; sent = a .sent; level = a .fact })
+      (λ h. record { below = h .below; member = h .member; report = h .report; sent = h .sent; fact = h .level })
+      (said (level v) (λ r. (r .component ≡ Some v) ⊎ IsClear v r) (is-level v) q)
 
   pub marks-up-to : (n : ℕ) → any-mark-above rs n ≡ false → MarksUpTo rs n
   marks-up-to n e q r l s = unmarked n (r .mark) .0 (not-from-false _ (sym (ap (present (marked-above n)) s) ∙ any-none _ 16 e q l))
@@ -107,15 +118,15 @@ module _ (rs : List (Option Report)) (v : View) where
     pub one-carried : (s t : Recorded) → f (holders rs v s) (v .set .0) ≡ true → f (holders rs v t) (v .set .0) ≡ true → s ≡ t
     one-carried s t a b =
         let m = meets (holders rs v s) (holders rs v t) (v .set .0) a b in
-        let h = holder s (m .0) (m .1) .0 (m .2) in
-        let k = holder t (m .0) (m .1) .0 (m .3) in
+        let h = holder s (m .0) .0 (m .2) in
+        let k = holder t (m .0) .0 (m .3) in
         some-same (h .recorded) (ap (λ r. r .recorded) (some-same (h .sent) (k .sent)) ∙ k .recorded)
 
     -- what is carried, somebody reports
     reports-it : (s : Recorded) → f (holders rs v s) (v .set .0) ≡ true → (q : ℕ) × (q < 16) × (if-carried f rs v (recorded-of (reported rs q)) ≡ Some s)
     reports-it s a =
         let m = meets (holders rs v s) (holders rs v s) (v .set .0) a a in
-        let h = holder s (m .0) (m .1) .0 (m .2) in
+        let h = holder s (m .0) .0 (m .2) in
         (m .0, m .1, ap (λ o. if-carried f rs v (recorded-of o)) (h .sent) ∙ ap (if-carried f rs v) (h .recorded) ∙ cond-true _ (Some s) None a)
 
     carried-from : (o : Option Recorded) (s : Recorded) → if-carried f rs v o ≡ Some s → f (holders rs v s) (v .set .0) ≡ true

@@ -51,7 +51,7 @@ pub record HoldersGrounds (f : ℕ → ℕ → Bool) (h : Head) (rs : List (Opti
   pub recorded : Recorded
   pub is : recorded .view ≡ w
   pub part : ℕ
-  pub holds : (q : ℕ) → q < 16 → has part q ≡ true → Holder rs view recorded q
+  pub holds : (q : ℕ) → has part q ≡ true → Holder rs view recorded q
   pub carries : f part (view .set .0) ≡ true
   pub in-round : f (h .set .0) (w .set .0) ≡ true
 
@@ -59,7 +59,7 @@ pub record HoldersGrounds (f : ℕ → ℕ → Bool) (h : Head) (rs : List (Opti
 pub record ClearGrounds (f : ℕ → ℕ → Bool) (h : Head) (rs : List (Option Report)) (v : View) : Type 0 where
   pub standing : Standing f h rs v
   pub part : ℕ
-  pub clear : (q : ℕ) → q < 16 → has part q ≡ true → ClearMember rs v q
+  pub clear : (q : ℕ) → has part q ≡ true → ClearMember rs v q
   pub carries : f part (v .set .0) ≡ true
   pub unheld : (s : Recorded) → Uncarried f v (Holder rs v s)
 

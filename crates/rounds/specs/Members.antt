@@ -46,6 +46,7 @@ backed f rs v = first (λ q. if-carried f rs v (recorded-of (reported rs q))) 16
 
 -- ---- who they are, one by one
 pub record Holder (rs : List (Option Report)) (v : View) (s : Recorded) (q : ℕ) : Type 0 where
+  pub below : q < 16
   pub member : has (v .set .0) q ≡ true
   pub report : Report
   pub sent : reported rs q ≡ Some report
@@ -65,6 +66,7 @@ abbrev pub IsClear : View → Report → Type 0
 IsClear v r = ((r .component ≡ Some v) × (r .recorded ≡ None)) ⊎ MarkUpTo (v .number .0) (r .mark)
 
 pub record ClearMember (rs : List (Option Report)) (v : View) (q : ℕ) : Type 0 where
+  pub below : q < 16
   pub member : has (v .set .0) q ≡ true
   pub report : Report
   pub sent : reported rs q ≡ Some report
@@ -72,6 +74,7 @@ pub record ClearMember (rs : List (Option Report)) (v : View) (q : ℕ) : Type 0
 
 -- at the view, or clear
 pub record LevelMember (rs : List (Option Report)) (v : View) (q : ℕ) : Type 0 where
+  pub below : q < 16
   pub member : has (v .set .0) q ≡ true
   pub report : Report
   pub sent : reported rs q ≡ Some report

@@ -2,7 +2,7 @@
 ghost use mathlib.Core.Path.{_≡_};
 ghost use Prim.Native.Nat.{_+_, _<_};
 ghost use Rattle.rounds.specs.Reports.{reported, says};
-ghost use Rattle.rounds.specs.Members.{members-that, holders, clear-members, level-members, any-mark-above, backed};
+ghost use Rattle.rounds.specs.Members.{member-that, members-that, holders, clear-members, level-members, any-mark-above, backed};
 use super::report::Claim;
 use super::report::Report;
 use quorum::QuorumRule;
@@ -19,16 +19,23 @@ fn reported(reports: &[Option<Report>; 16], q: u8) -> Option<Report>
     reports[q as usize]
 }
 
-// The members of the view whose reports say so.
+// Replica `q` is a member of the view, and its report says so.
+fn is_member_that(claim: Claim, reports: &[Option<Report>; 16], view: View, q: u8) -> bool
+    requires { ⌜ q < 16 ⌝ }
+    ensures { λ b. ⌜ b ≡ member-that (says view claim) (now (reports .entry)) view q ⌝ }
+{
+    let Some(report) = reported(reports, q) else {
+        return false;
+    };
+    view.set.contains(q) && report.says(view, claim)
+}
+
 fn members_that(claim: Claim, reports: &[Option<Report>; 16], view: View) -> ReplicaSet
     ensures { λ r. ⌜ r .0 ≡ members-that (says view claim) (now (reports .entry)) view ⌝ }
 {
     let mut found = ReplicaSet::EMPTY;
     for q in 0..16u8 {
-        let Some(report) = reported(reports, q) else {
-            continue;
-        };
-        if view.set.contains(q) && report.says(view, claim) {
+        if is_member_that(claim, reports, view, q) {
             found = found.with(q);
         }
     }

@@ -61,21 +61,49 @@ fn same_settled(one: Option<View>, other: Option<View>) -> bool
 
 // Bit r of a set stands for replica r.
 const ONE: ReplicaSet = ReplicaSet(0b10);
+
 const ONE_TWO: ReplicaSet = ReplicaSet(0b110);
+
 const ONE_THREE: ReplicaSet = ReplicaSet(0b1010);
+
 const TWO_FOUR: ReplicaSet = ReplicaSet(0b1_0100);
+
 const ONE_TO_THREE: ReplicaSet = ReplicaSet(0b1110);
+
 const ONE_TO_FOUR: ReplicaSet = ReplicaSet(0b1_1110);
+
 const ONE_TO_FIVE: ReplicaSet = ReplicaSet(0b11_1110);
+
 const SIX: ReplicaSet = ReplicaSet(0b100_0000);
+
 const ONE_TO_THREE_SIX: ReplicaSet = ReplicaSet(0b100_1110);
+
 const ONE_TO_THREE_SIX_TO_NINE: ReplicaSet = ReplicaSet(0b11_1100_1110);
 
-const SEVEN: View = View { number: Number(7), set: ONE_TO_FIVE };
-const NARROW_SEVEN: View = View { number: Number(7), set: ONE_TO_THREE };
-const EIGHT: View = View { number: Number(8), set: ONE_TO_THREE };
-const EIGHT_OF_FOUR: View = View { number: Number(8), set: ONE_TO_FOUR };
-const WIDE_EIGHT: View = View { number: Number(8), set: ONE_TO_THREE_SIX_TO_NINE };
+const SEVEN: View = View {
+    number: Number(7),
+    set: ONE_TO_FIVE,
+};
+
+const NARROW_SEVEN: View = View {
+    number: Number(7),
+    set: ONE_TO_THREE,
+};
+
+const EIGHT: View = View {
+    number: Number(8),
+    set: ONE_TO_THREE,
+};
+
+const EIGHT_OF_FOUR: View = View {
+    number: Number(8),
+    set: ONE_TO_FOUR,
+};
+
+const WIDE_EIGHT: View = View {
+    number: Number(8),
+    set: ONE_TO_THREE_SIX_TO_NINE,
+};
 
 // Three of the five, all clear.
 const CLEAR: Round = Round {

@@ -9,9 +9,6 @@ use Rattle.rounds.proofs.members.members_that.Needs as need
 pub loop-q-holds : need.loop-q-holds
 loop-q-holds c = search (needs, select-none)
 
-pub loop-q-again-in-rest : need.loop-q-again-in-rest
-loop-q-again-in-rest c = search (needs, select-more-no)
-
 pub loop-q-again : need.loop-q-again
 loop-q-again c =
     let f = member-that (says (c .args .view) (c .args .claim)) (c .args .reports .now) (c .args .view) in
