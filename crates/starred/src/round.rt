@@ -1,6 +1,5 @@
 // A round in short: who reports what.
 ghost use mathlib.Core.Path.{_≡_};
-ghost use Prim.Native.Nat.{_<_};
 ghost use Rattle.starred.specs.Examples.{recorded-by, report-of, reports-of, end-of};
 use quorum::CountQuorum;
 use quorum::CountRule;

@@ -3,6 +3,7 @@ ghost use mathlib.Core.Path.{_≡_};
 ghost use mathlib.Core.Bool.{true};
 ghost use Rattle.quorum.specs.Members.{listed, majority};
 ghost use Rattle.starred.specs.Examples.{heavy, settles, shows, every};
+ghost use Rattle.starred.specs.Table.{table};
 use super::round::Round;
 use quorum::CountQuorum;
 use quorum::CountRule;
@@ -126,7 +127,7 @@ const TWO_AND_THREE: Round = Round {
     ..TWO_AND_TWO
 };
 // All three hold a view of seven members, of whom the round has three.
-const UNHELD_EIGHT: Round = Round {
+const WITHOUT_SIX: Round = Round {
     view: NARROW_SEVEN,
     members: ONE_TO_THREE,
     recorded: WIDE_EIGHT,
@@ -139,7 +140,7 @@ const WITH_SIX: Round = Round {
     members: ONE_TO_THREE_SIX,
     early: ONE_TO_THREE_SIX,
     bare: SIX,
-    ..UNHELD_EIGHT
+    ..WITHOUT_SIX
 };
 // All five: the same view was recorded under two stamps by two each, and 5 is clear.
 const TWO_STAMPS: Round = Round {
@@ -151,8 +152,8 @@ const TWO_STAMPS: Round = Round {
     bare: ReplicaSet::EMPTY,
 };
 
-pub fn starred() -> [Example; 9]
-    ensures { λ t. ⌜ every shows t ≡ true ⌝ }
+fn lines() -> [Example; 9]
+    ensures { λ t. ⌜ t ≡ table ⌝ }
 {
     [
         Example::Count(ONE_TO_THREE, ONE_TO_FIVE, true),
@@ -161,10 +162,18 @@ pub fn starred() -> [Example; 9]
         Example::Ends(CLEAR, Outcome::SettledByClear, Some(SEVEN)),
         Example::Ends(TWO_AND_TWO, Outcome::Undecided, None),
         Example::Ends(TWO_AND_THREE, Outcome::SettledByClear, Some(SEVEN)),
-        Example::Ends(UNHELD_EIGHT, Outcome::Undecided, None),
+        Example::Ends(WITHOUT_SIX, Outcome::Undecided, None),
         Example::Ends(WITH_SIX, Outcome::SettledByHolders, Some(WIDE_EIGHT)),
         Example::Ends(TWO_STAMPS, Outcome::SettledByAll, Some(SEVEN)),
     ]
+}
+
+// The table, with its theorem: each line is as the rules say.
+pub fn starred() -> [Example; 9]
+    ensures is { λ t. ⌜ t ≡ table ⌝ }
+    ensures shown { λ t. ⌜ every shows t ≡ true ⌝ }
+{
+    lines()
 }
 
 #[cfg(test)]

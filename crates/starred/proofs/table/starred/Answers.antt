@@ -1,9 +1,7 @@
-use mathlib.Core.Path.{refl}
-use Rattle.quorum.specs.Below.{any, first, select}
-use Rattle.quorum.specs.Members.{has, tally}
-use Rattle.starred.specs.Examples.{reports-of}
+use mathlib.Core.Path.{_∙_, ap}
+use Rattle.starred.specs.Examples.{shows, every}
+use Rattle.starred.proofs.Shown.{table-shown}
 use Rattle.starred.proofs.table.starred.Needs as need
 
 pub returns : need.returns
-unfolding has tally any first select reports-of
-returns c = refl
+returns c = record { is = c .lines .ensures; shown = ap (every shows) (c .lines .ensures) ∙ table-shown }
