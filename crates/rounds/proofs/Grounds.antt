@@ -104,13 +104,13 @@ module _ (f : ℕ → ℕ → Bool) (h : Head) (rs : List (Option Report)) where
     settled v (Some s) b st =
         cond-both (f (h .set .0) (s .view .set .0)) (SettledByHolders, Some (s .view)) (Undecided, None) Ends
         (λ e. record { view = v; standing = st; recorded = s; is = refl; part = holders rs v s; holds = λ q. holder rs v s q .0; carries = b .0; in-round = e })
-        (λ e. (refl, v, st, inl (record { recorded = s; carries = b .0; apart = e })))
+        (λ e. (refl, record { view = v; standing = st; why = inl (record { recorded = s; carries = b .0; apart = e }) }))
     settled v None b st =
         cond-both (f (clear-members rs v) (v .set .0)) (SettledByClear, Some v) _ Ends
         (λ e. record { standing = st; part = clear-members rs v; clear = λ q. clear-member rs v q .0; carries = e; unheld = unheld v b })
         (λ e. cond-both (all-level h rs v) (SettledByAll, Some v) (Undecided, None) Ends
         (λ a. record { standing = st; in-round = λ q l m. each-level v a q l m .0; level = λ q l m. each-level v a q l m .1; unheld = unheld v b; unclear = unclear v e })
-        (λ a. (refl, v, st, inr (record { unheld = unheld v b; unclear = unclear v e; missing = λ all. both-ways _ a (level-from v all) }))))
+        (λ a. (refl, record { view = v; standing = st; why = inr (record { unheld = unheld v b; unclear = unclear v e; missing = λ all. both-ways _ a (level-from v all) }) })))
 
     ends-on : (o : Option View) → Highest rs 16 o → Ends (decided-on f h rs o)
     ends-on None none = (refl, none)
@@ -184,11 +184,12 @@ module _ (f : ℕ → ℕ → Bool) (h : Head) (rs : List (Option Report)) where
     decided-only MarkedPast w g =
         let b = g .1 in ap (λ x. (MarkedPast, x)) (g .0) ∙ sym (at-barred (b .view) MarkedPast (b .leading) (mark-bars b))
     decided-only Undecided w g =
+        let u = g .1 in
         ap (λ x. (Undecided, x)) (g .0) ∙
-        ⊎-elim (λ a. sym (at-held (g .1) (a .recorded) (g .2) (a .carries) ∙ cond-false _ (SettledByHolders, _) (Undecided, None) (a .apart)))
-        (λ u. sym (at-unheld (g .1) (g .2) (u .unheld) ∙ cond-false _ (SettledByClear, _) _ (not-clear (g .1) (u .unclear)) ∙
-        cond-false _ (SettledByAll, _) (Undecided, None) (not-all (g .1) u)))
-        (g .3)
+        ⊎-elim (λ a. sym (at-held (u .view) (a .recorded) (u .standing) (a .carries) ∙ cond-false _ (SettledByHolders, _) (Undecided, None) (a .apart)))
+        (λ a. sym (at-unheld (u .view) (u .standing) (a .unheld) ∙ cond-false _ (SettledByClear, _) _ (not-clear (u .view) (a .unclear)) ∙
+        cond-false _ (SettledByAll, _) (Undecided, None) (not-all (u .view) a)))
+        (u .why)
     decided-only Spare w g = absurd g
 
     pub only-of : (d : Outcome × Option View) → d ≡ decided f h rs → Only f h rs d

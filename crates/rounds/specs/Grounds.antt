@@ -83,6 +83,12 @@ pub record Unsettled (f : ℕ → ℕ → Bool) (h : Head) (rs : List (Option Re
   pub unclear : Uncarried f v (ClearMember rs v)
   pub missing : ((q : ℕ) → q < 16 → has (v .set .0) q ≡ true → (has (h .set .0) q ≡ true) × LevelMember rs v q) → ⊥
 
+-- v is presumed and stands, and yet nothing settles the round
+pub record UndecidedGrounds (f : ℕ → ℕ → Bool) (h : Head) (rs : List (Option Report)) : Type 0 where
+  pub view : View
+  pub standing : Standing f h rs view
+  pub why : HeldApart f h rs view ⊎ Unsettled f h rs view
+
 -- 4 and 9 end a round before all have reported, so they are no decision
 abbrev pub Grounds : (ℕ → ℕ → Bool) → Head → List (Option Report) → Outcome → Option View → Type 0
 Grounds f h rs SettledByHolders None = ⊥
@@ -95,7 +101,7 @@ Grounds f h rs LostMember o = ⊥
 Grounds f h rs NoComponent o = (o ≡ None) × Highest rs 16 None
 Grounds f h rs NotCarried o = (o ≡ None) × NotCarriedGrounds f h rs
 Grounds f h rs MarkedPast o = (o ≡ None) × MarkedGrounds f h rs
-Grounds f h rs Undecided o = (o ≡ None) × (v : View) × Standing f h rs v × (HeldApart f h rs v ⊎ Unsettled f h rs v)
+Grounds f h rs Undecided o = (o ≡ None) × UndecidedGrounds f h rs
 Grounds f h rs Spare o = ⊥
 
 -- an outcome and a settled view that have their grounds are the round's

@@ -11,32 +11,33 @@ use stores::Number;
 use stores::Recorded;
 use stores::View;
 
-// What replica `q` reported.
-fn reported(reports: &[Option<Report>; 16], q: u8) -> Option<Report>
-    requires { ⌜ q < 16 ⌝ }
-    ensures { λ r. ⌜ r ≡ reported (now (reports .entry)) q ⌝ }
+// What replica `replica` reported.
+fn reported(reports: &[Option<Report>; 16], replica: u8) -> Option<Report>
+    requires { ⌜ replica < 16 ⌝ }
+    ensures { λ r. ⌜ r ≡ reported (now (reports .entry)) replica ⌝ }
 {
-    reports[q as usize]
+    reports[replica as usize]
 }
 
-// Replica `q` is a member of the view, and its report says so.
-fn is_member_that(claim: Claim, reports: &[Option<Report>; 16], view: View, q: u8) -> bool
-    requires { ⌜ q < 16 ⌝ }
-    ensures { λ b. ⌜ b ≡ member-that (says view claim) (now (reports .entry)) view q ⌝ }
+// Replica `replica` is a member of the view, and its report says so.
+fn is_member_that(claim: Claim, reports: &[Option<Report>; 16], view: View, replica: u8) -> bool
+    requires { ⌜ replica < 16 ⌝ }
+    ensures { λ b. ⌜ b ≡ member-that (says view claim) (now (reports .entry)) view replica ⌝ }
 {
-    let Some(report) = reported(reports, q) else {
+    let Some(report) = reported(reports, replica) else {
         return false;
     };
-    view.set.contains(q) && report.says(view, claim)
+    view.set.contains(replica) && report.says(view, claim)
 }
 
+// The members of the view whose reports say so.
 fn members_that(claim: Claim, reports: &[Option<Report>; 16], view: View) -> ReplicaSet
     ensures { λ r. ⌜ r .0 ≡ members-that (says view claim) (now (reports .entry)) view ⌝ }
 {
     let mut found = ReplicaSet::EMPTY;
-    for q in 0..16u8 {
-        if is_member_that(claim, reports, view, q) {
-            found = found.with(q);
+    for replica in 0..16u8 {
+        if is_member_that(claim, reports, view, replica) {
+            found = found.with(replica);
         }
     }
     found
@@ -67,8 +68,8 @@ pub(crate) fn level_members(reports: &[Option<Report>; 16], view: View) -> Repli
 pub(crate) fn any_marked_past(reports: &[Option<Report>; 16], number: Number) -> bool
     ensures { λ b. ⌜ b ≡ any-mark-above (now (reports .entry)) (number .0 + 1) ⌝ }
 {
-    for q in 0..16u8 {
-        let Some(report) = reported(reports, q) else {
+    for replica in 0..16u8 {
+        let Some(report) = reported(reports, replica) else {
             continue;
         };
         if report.is_marked_past(number) {
@@ -86,8 +87,8 @@ pub(crate) fn backed<R: QuorumRule>(
 ) -> Option<Recorded>
     ensures { λ r. ⌜ r ≡ backed (carries (now (rule .entry))) (now (reports .entry)) view ⌝ }
 {
-    for q in 0..16u8 {
-        let Some(report) = reported(reports, q) else {
+    for replica in 0..16u8 {
+        let Some(report) = reported(reports, replica) else {
             continue;
         };
         let Some(recorded) = report.recorded else {

@@ -10,11 +10,11 @@ pub returns-then-carries : need.returns-then-carries
 returns-then-carries g c =
     let f = g .R·QuorumRule .carries (c .args .rule .now) in
     let rs = c .args .reports .now in
-    sym (first-from (λ q. if-carried f rs (c .args .view) (recorded-of (reported rs q))) 16 (c .loop-q .q) (c .in-Some-recorded .recorded)
-    (omega arith) (search needs) (c .loop-q .inv))
+    sym (first-from (λ q. if-carried f rs (c .args .view) (recorded-of (reported rs q))) 16 (c .loop-replica .replica) (c .in-Some-recorded .recorded)
+    (omega arith) (search needs) (c .loop-replica .inv))
 
 pub returns : need.returns
 returns g c =
     let f = g .R·QuorumRule .carries (c .args .rule .now) in
     let rs = c .args .reports .now in
-    sym (first-none-from (λ q. if-carried f rs (c .args .view) (recorded-of (reported rs q))) 16 (λ k l. c .loop-q .inv k (omega arith)))
+    sym (first-none-from (λ q. if-carried f rs (c .args .view) (recorded-of (reported rs q))) 16 (λ k l. c .loop-replica .inv k (omega arith)))
