@@ -1,0 +1,4 @@
+pub mod Messages
+pub mod Rows
+pub mod Verdicts
+pub mod Effects
