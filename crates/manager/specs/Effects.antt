@@ -22,20 +22,20 @@ use Rattle.stores.specs.declared.view.Stamp.{Stamp}
 use Rattle.stores.specs.declared.view.View.{View}
 use Rattle.stores.specs.Views.{recorded as recorded-view}
 use Rattle.manager.specs.declared.answer.Answer.{Answer}
-use Rattle.manager.specs.declared.message.Body.{Body}
-use Rattle.manager.specs.declared.message.Body.the-variants.{Recorded, Report as Reports}
-use Rattle.manager.specs.declared.message.Message.{Message}
-use Rattle.manager.specs.declared.message.Part.{Part}
-use Rattle.manager.specs.declared.message.Part.the-variants.{Member, Newcomer}
-use Rattle.manager.specs.declared.message.Posts.{Posts}
-use Rattle.manager.specs.declared.message.Posts.the-variants.{Nothing, One, Two}
+use Rattle.rows.specs.declared.message.Body.{Body}
+use Rattle.rows.specs.declared.message.Body.the-variants.{Recorded, Report as Reports}
+use Rattle.rows.specs.declared.message.Message.{Message}
+use Rattle.rows.specs.declared.message.Part.{Part}
+use Rattle.rows.specs.declared.message.Part.the-variants.{Member, Newcomer}
+use Rattle.rows.specs.declared.message.Posts.{Posts}
+use Rattle.rows.specs.declared.message.Posts.the-variants.{Nothing, One, Two}
 use Rattle.manager.specs.declared.need.Need.{Need}
-use Rattle.manager.specs.declared.row.Applied.{Applied}
-use Rattle.manager.specs.declared.row.Gathered.{Gathered}
-use Rattle.manager.specs.declared.row.Reference.{Reference}
-use Rattle.manager.specs.declared.row.Row.{Row}
-use Rattle.manager.specs.declared.row.Stage.{Stage}
-use Rattle.manager.specs.declared.row.Stage.the-variants.{Idle, Gathering, Confirming, Applying, Entering, Round}
+use Rattle.rows.specs.declared.row.Applied.{Applied}
+use Rattle.rows.specs.declared.row.Gathered.{Gathered}
+use Rattle.rows.specs.declared.row.Reference.{Reference}
+use Rattle.rows.specs.declared.row.Row.{Row}
+use Rattle.rows.specs.declared.row.Stage.{Stage}
+use Rattle.rows.specs.declared.row.Stage.the-variants.{Idle, Gathering, Confirming, Applying, Entering, Round}
 use Rattle.manager.specs.declared.verdict.Verdict.{Verdict}
 use Rattle.manager.specs.declared.verdict.Verdict.the-variants.{Stays, Records, Installs, Reconfigures, Closes, Forgets, Ends}
 use Rattle.manager.specs.Verdicts.{verdict-of}

@@ -1,4 +1,2 @@
-pub mod Messages
-pub mod Rows
 pub mod Verdicts
 pub mod Effects

@@ -19,14 +19,14 @@ use Rattle.stores.specs.declared.view.Head.{Head}
 use Rattle.stores.specs.declared.view.View.{View}
 use Rattle.manager.specs.declared.need.Need.{Need}
 use Rattle.manager.specs.declared.need.Need.the-variants.{One, MoreThanHalf}
-use Rattle.manager.specs.declared.row.Applied.{Applied}
-use Rattle.manager.specs.declared.row.Confirmed.{Confirmed}
-use Rattle.manager.specs.declared.row.Entered.{Entered}
-use Rattle.manager.specs.declared.row.Gathered.{Gathered}
-use Rattle.manager.specs.declared.row.Reference.{Reference}
-use Rattle.manager.specs.declared.row.Row.{Row}
-use Rattle.manager.specs.declared.row.Stage.{Stage}
-use Rattle.manager.specs.declared.row.Stage.the-variants.{Idle, Gathering, Confirming, Applying, Entering, Round}
+use Rattle.rows.specs.declared.row.Applied.{Applied}
+use Rattle.rows.specs.declared.row.Confirmed.{Confirmed}
+use Rattle.rows.specs.declared.row.Entered.{Entered}
+use Rattle.rows.specs.declared.row.Gathered.{Gathered}
+use Rattle.rows.specs.declared.row.Reference.{Reference}
+use Rattle.rows.specs.declared.row.Row.{Row}
+use Rattle.rows.specs.declared.row.Stage.{Stage}
+use Rattle.rows.specs.declared.row.Stage.the-variants.{Idle, Gathering, Confirming, Applying, Entering, Round}
 use Rattle.manager.specs.declared.verdict.Verdict.{Verdict}
 use Rattle.manager.specs.declared.verdict.Verdict.the-variants.{Stays, Records, Installs, Reconfigures, Closes, Forgets, Ends}
 

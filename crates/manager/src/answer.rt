@@ -1,6 +1,6 @@
 // What an accepted call answers.
-use super::message::Message;
-use super::message::Posts;
+use rows::Message;
+use rows::Posts;
 use rounds::Outcome;
 use stores::View;
 

@@ -5,17 +5,17 @@ ghost use Rattle.manager.specs.Effects.{closed, raised, component-page, compon
 ghost use Rattle.std.specs.declared.option.Option.the-variants.{Some};
 use super::answer::Answer;
 use super::judge::judge;
-use super::message::Body;
-use super::message::Message;
-use super::message::Part;
-use super::message::Posts;
+use rows::Body;
+use rows::Message;
+use rows::Part;
+use rows::Posts;
 use super::need::Need;
-use super::row::Applied;
-use super::row::Confirmed;
-use super::row::Entered;
-use super::row::Gathered;
-use super::row::Row;
-use super::row::Stage;
+use rows::Applied;
+use rows::Confirmed;
+use rows::Entered;
+use rows::Gathered;
+use rows::Row;
+use rows::Stage;
 use super::verdict::Verdict;
 use quorum::QuorumRule;
 use quorum::ReplicaSet;
@@ -27,14 +27,12 @@ use stores::Page;
 use stores::Recorded;
 use stores::View;
 
-impl Row {
-    // The head closes: idle, with nothing lost or heard.
-    pub(crate) fn close(&mut self)
-        ensures { λ _. ⌜ now (self .exit) ≡ closed (now (self .entry)) ⌝ }
-    {
-        self.lost = ReplicaSet::EMPTY;
-        self.stage = Stage::Idle;
-    }
+// The head closes: idle, with nothing lost or heard.
+pub(crate) fn close(row: &mut Row)
+    ensures { λ _. ⌜ now (row .exit) ≡ closed (now (row .entry)) ⌝ }
+{
+    row.lost = ReplicaSet::EMPTY;
+    row.stage = Stage::Idle;
 }
 
 // The mark raised to a number.
@@ -55,7 +53,7 @@ fn hold(page: &mut Page, row: &mut Row, view: View)
     page.mode = Mode::Normal;
     page.component = Some(view);
     page.recorded = None;
-    row.close();
+    close(row);
     row.survivors = view.set;
 }
 
@@ -67,7 +65,7 @@ pub(crate) fn spare(page: &mut Page, row: &mut Row)
     page.mode = Mode::Waiting;
     page.component = None;
     page.recorded = None;
-    row.close();
+    close(row);
     row.survivors = ReplicaSet::EMPTY;
 }
 
@@ -77,7 +75,7 @@ fn install(page: &mut Page, row: &mut Row)
     ensures row { λ _. ⌜ now (row .exit) ≡ installing (now (page .entry)) (now (row .entry)) Posts.Nothing (now (page .entry) .recorded) .row ⌝ }
 {
     let Some(recorded) = page.recorded else {
-        row.close();
+        close(row);
         return;
     };
     hold(page, row, recorded.view);
@@ -89,7 +87,7 @@ fn settle(replica: u8, page: &mut Page, row: &mut Row, settled: Option<View>)
     ensures row { λ _. ⌜ now (row .exit) ≡ settling replica (now (page .entry)) (now (row .entry)) Posts.Nothing Outcome.Spare settled .row ⌝ }
 {
     let Some(view) = settled else {
-        row.close();
+        close(row);
         return;
     };
     if view.set.contains(replica) {
@@ -112,13 +110,13 @@ pub(crate) fn carry_out(replica: u8, page: &mut Page, row: &mut Row, posts: Post
         Verdict::Installs => install(page, row),
         Verdict::Reconfigures => {
             page.mode = Mode::Reconfiguration;
-            row.close();
+            close(row);
         }
-        Verdict::Closes => row.close(),
+        Verdict::Closes => close(row),
         Verdict::Forgets => {
             page.mode = Mode::Waiting;
             page.recorded = None;
-            row.close();
+            close(row);
         }
         Verdict::Ends(outcome, settled) => {
             settle(replica, page, row, settled);

@@ -16,15 +16,15 @@ use Rattle.stores.specs.declared.page.Page.{Page}
 use Rattle.stores.specs.declared.view.Head.{Head}
 use Rattle.stores.specs.declared.view.Recorded.{Recorded}
 use Rattle.stores.specs.declared.view.View.{View}
-use Rattle.manager.specs.declared.row.Applied.{Applied}
-use Rattle.manager.specs.declared.row.Confirmed.{Confirmed}
-use Rattle.manager.specs.declared.row.Entered.{Entered}
-use Rattle.manager.specs.declared.row.Gathered.{Gathered}
-use Rattle.manager.specs.declared.row.Reference.{Reference}
-use Rattle.manager.specs.declared.row.Row.{Row}
-use Rattle.manager.specs.declared.row.Stage.{Stage}
-use Rattle.manager.specs.declared.row.Stage.the-variants.{Idle, Gathering, Confirming, Applying, Entering, Round}
-use Rattle.manager.specs.Messages.{report-keeps}
+use Rattle.rows.specs.declared.row.Applied.{Applied}
+use Rattle.rows.specs.declared.row.Confirmed.{Confirmed}
+use Rattle.rows.specs.declared.row.Entered.{Entered}
+use Rattle.rows.specs.declared.row.Gathered.{Gathered}
+use Rattle.rows.specs.declared.row.Reference.{Reference}
+use Rattle.rows.specs.declared.row.Row.{Row}
+use Rattle.rows.specs.declared.row.Stage.{Stage}
+use Rattle.rows.specs.declared.row.Stage.the-variants.{Idle, Gathering, Confirming, Applying, Entering, Round}
+use Rattle.rows.specs.Messages.{report-keeps}
 
 abbrev pub is-waiting : Mode → Bool
 is-waiting Waiting = true

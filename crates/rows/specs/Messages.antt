@@ -10,9 +10,9 @@ use Rattle.stores.specs.declared.page.Mode.the-variants.{Waiting, Joining, Norm
 use Rattle.stores.specs.declared.page.Page.{Page}
 use Rattle.stores.specs.declared.view.Head.{Head}
 use Rattle.stores.specs.Rules.{keeps-rules}
-use Rattle.manager.specs.declared.message.Body.{Body}
-use Rattle.manager.specs.declared.message.Body.the-variants.{State, Abort, Join, Recorded, Report as Reports}
-use Rattle.manager.specs.declared.message.Message.{Message}
+use Rattle.rows.specs.declared.message.Body.{Body}
+use Rattle.rows.specs.declared.message.Body.the-variants.{State, Abort, Join, Recorded, Report as Reports}
+use Rattle.rows.specs.declared.message.Message.{Message}
 
 -- each kind's number
 abbrev pub kind-number : Body → ℕ
