@@ -150,7 +150,7 @@ fn judge_entering<R: QuorumRule>(rule: &R, lost: ReplicaSet, head: Head, entered
     Verdict::Forgets
 }
 
-fn is_reported(reports: &[Option<Report>; 16], replica: u8) -> bool
+pub(crate) fn is_reported(reports: &[Option<Report>; 16], replica: u8) -> bool
     requires { ⌜ replica < 16 ⌝ }
     ensures { λ b. ⌜ b ≡ isSome (reported (now (reports .entry)) replica) ⌝ }
 {

@@ -1,6 +1,8 @@
 // The configuration manager of one replica: one page, one row, one message.
 mod answer;
 mod effect;
+mod hear;
+mod hearing;
 mod judge;
 mod need;
 mod verdict;
