@@ -1,3 +1,4 @@
 pub mod Verdicts
 pub mod Effects
 pub mod Hearing
+pub mod Calls

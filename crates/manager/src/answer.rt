@@ -1,5 +1,6 @@
 // What an accepted call answers.
-use rows::Message;
+ghost use mathlib.Core.Path.{_≡_};
+ghost use Rattle.std.specs.declared.option.Option.the-variants.{None};
 use rows::Posts;
 use rounds::Outcome;
 use stores::View;
@@ -10,4 +11,16 @@ pub struct Answer {
     pub posts: Posts,
     // Where a round ended: how, and the view that it settled on.
     pub ended: Option<(Outcome, Option<View>)>,
+}
+
+impl Answer {
+    // Nothing is posted, and no round ended.
+    pub(crate) fn quiet() -> Answer
+        ensures { λ a. ⌜ a ≡ record { posts = Posts.Nothing; ended = None } ⌝ }
+    {
+        Answer {
+            posts: Posts::Nothing,
+            ended: None,
+        }
+    }
 }

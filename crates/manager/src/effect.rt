@@ -127,7 +127,7 @@ pub(crate) fn carry_out(replica: u8, page: &mut Page, row: &mut Row, posts: Post
 }
 
 // The messages, one after another.
-fn posts_of(first: Option<Message>, second: Option<Message>) -> Posts
+pub(crate) fn posts_of(first: Option<Message>, second: Option<Message>) -> Posts
     ensures { λ p. ⌜ p ≡ posts-of first second ⌝ }
 {
     match (first, second) {

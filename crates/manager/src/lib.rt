@@ -5,6 +5,7 @@ mod hear;
 mod hearing;
 mod judge;
 mod need;
+mod take_up;
 mod verdict;
 
 pub use answer::Answer;
