@@ -52,6 +52,11 @@ refusal reason r = record { reason = reason; replica = Some r; layer = Manager }
 abbrev pub refused-if : Bool → Reason → ℕ → Option Fault
 refused-if b reason r = cond b (Some (refusal reason r)) None
 
+-- let through, or refused
+abbrev pub allowed : Option Fault → Result Unit Fault
+allowed None = Ok tt
+allowed (Some fault) = Err fault
+
 -- the first that applies
 abbrev pub first-of : Option Fault → Option Fault → Option Fault
 first-of a b = or-else a b
@@ -86,13 +91,15 @@ at-highest None = false
 at-highest (Some c) = leb 1000000000 (c .number .0)
 
 -- a view: without the replica, a head open, the stamp not above the top stamp, normal mode at the highest number
-abbrev pub view-refusal : ℕ → Page → Row → Head → Option Fault
-view-refusal r p w h =
-    first-of (call-refusal r p w)
-    (first-of (refused-if (not (has (h .set .0) r)) ViewWithoutReplica r)
+abbrev pub announcement-refusal : ℕ → Page → Row → Head → Option Fault
+announcement-refusal r p w h =
+    first-of (refused-if (not (has (h .set .0) r)) ViewWithoutReplica r)
     (first-of (refused-if (is-open (head-of (w .stage))) HeadOpen r)
     (first-of (refused-if (leb (h .stamp .0) (p .top .0)) StampNotAbove r)
-    (refused-if (is-normal (p .mode) && at-highest (p .component)) NumbersExhausted r))))
+    (refused-if (is-normal (p .mode) && at-highest (p .component)) NumbersExhausted r)))
+
+unfoldable pub view-refusal : ℕ → Page → Row → Head → Option Fault
+view-refusal r p w h = first-of (call-refusal r p w) (announcement-refusal r p w h)
 
 -- a message against the rules comes first of all
 abbrev pub message-refusal : ℕ → Message → Option Fault
@@ -104,7 +111,7 @@ head-refusal r w m None = Some (refusal NoHead r)
 head-refusal r w m (Some h) =
     first-of (refused-if (not (same-head (m .head) h)) OtherHead r) (refused-if (eqb (m .sender) r || has (w .lost .0) (m .sender)) WrongParty r)
 
-abbrev pub delivery-refusal : ℕ → Page → Row → Message → Option Fault
+unfoldable pub delivery-refusal : ℕ → Page → Row → Message → Option Fault
 delivery-refusal r p w m = first-of (message-refusal r m) (first-of (call-refusal r p w) (head-refusal r w m (head-of (w .stage))))
 
 -- of a loss and the open head: no head, itself, a stranger, one lost already
@@ -112,15 +119,16 @@ abbrev pub party-refusal : ℕ → Row → ℕ → Option Head → Option Fault
 party-refusal r w q None = Some (refusal NoHead r)
 party-refusal r w q (Some h) = refused-if (eqb q r || (not (has (h .set .0) q) || has (w .lost .0) q)) WrongParty r
 
+abbrev pub lost-refusal : ℕ → Row → ℕ → Option Fault
+lost-refusal r w q =
+    first-of (refused-if (leb 16 q) NoSuchReplica q) (first-of (refused-if (not (w .up)) WrongPower r) (party-refusal r w q (head-of (w .stage))))
+
 -- the replica of the call above 15 comes before the lost one above 15
-abbrev pub loss-refusal : ℕ → Page → Row → ℕ → Option Fault
-loss-refusal r p w q =
-    first-of (offer-refusal r p w)
-    (first-of (refused-if (leb 16 q) NoSuchReplica q)
-    (first-of (refused-if (not (w .up)) WrongPower r) (party-refusal r w q (head-of (w .stage)))))
+unfoldable pub loss-refusal : ℕ → Page → Row → ℕ → Option Fault
+loss-refusal r p w q = first-of (offer-refusal r p w) (lost-refusal r w q)
 
 -- a start finds the replica up
-abbrev pub start-refusal : ℕ → Page → Row → Option Fault
+unfoldable pub start-refusal : ℕ → Page → Row → Option Fault
 start-refusal r p w = first-of (offer-refusal r p w) (refused-if (w .up) WrongPower r)
 
 -- ---- what an accepted call does

@@ -213,3 +213,12 @@ fn hear_stage(page: &Page, row: &mut Row, sender: u8, body: &Body) -> Result<Hea
         _ => Err(Reason::NotHeard),
     }
 }
+
+// Hears what the sender tells, or says why not.
+pub(crate) fn hear(page: &Page, row: &mut Row, sender: u8, body: &Body) -> Result<Hearing, Reason>
+    requires { ⌜ sender < 16 ⌝ }
+    ensures answer { λ r. ⌜ r ≡ hearing-of (hears (now (page .entry)) (now (row .entry)) sender (now (body .entry))) ⌝ }
+    ensures row { λ r. ⌜ now (row .exit) ≡ in-stage (stage-left (now (row .entry) .stage) (hears (now (page .entry)) (now (row .entry)) sender (now (body .entry)))) (now (row .entry)) ⌝ }
+{
+    hear_stage(page, row, sender, body)
+}

@@ -1,12 +1,16 @@
 // The configuration manager of one replica: one page, one row, one message.
 mod answer;
+mod calls;
 mod effect;
 mod hear;
 mod hearing;
 mod judge;
 mod need;
+mod refuse;
 mod take_up;
 mod verdict;
 
 pub use answer::Answer;
+pub use calls::view;
 pub use need::Need;
+pub use refuse::check_message;
