@@ -1,0 +1,18 @@
+// Why two boards never arise: the findings over every run of moves. Proofs only; each function carries a theorem.
+ghost use Rattle.safety.specs.Findings.{Safety, Safe};
+ghost use Rattle.safety.specs.Example.{«Goes-on»};
+use quorum::QuorumRule;
+
+// The three findings hold of every run, by every relation that keeps the four laws.
+pub fn stands() -> u8
+    ensures { λ _. ⌜ Safety ⌝ }
+{
+    0
+}
+
+// The three findings hold of every run by this rule, whatever the rule is.
+pub fn stands_for<R: QuorumRule>(rule: &R) -> u8
+    ensures { λ _. ⌜ Safe (carries (now (rule .entry))) ⌝ }
+{
+    0
+}
