@@ -21,3 +21,4 @@ mod Tells
 mod Calls
 mod Runs
 mod Findings
+mod Example

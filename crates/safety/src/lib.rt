@@ -16,3 +16,10 @@ pub fn stands_for<R: QuorumRule>(rule: &R) -> u8
 {
     0
 }
+
+// There are such runs: in one a view is recorded and installed, the group fails, and a round settles.
+pub fn goes_on() -> u8
+    ensures { λ _. ⌜ «Goes-on» ⌝ }
+{
+    0
+}
