@@ -81,8 +81,8 @@ module _ (carries : ℕ → ℕ → Bool) (first : View) (meets : Meets carries)
         others = λ q d. a .others q d ∙ there w r y ms q d;
         mail = λ l.
             elim [
-              inl b ↦ ⊎-elim (λ (b : In l ns). a .mail l (inl b)) (λ (b : In l ms). a .mail l (inr (in-left l ms (w .post) b))) (in-split l ns ms b)
-            | inr b ↦ a .mail l (inr (in-right l ms (w .post) b))
+              | inl b ↦ ⊎-elim (λ (b : In l ns). a .mail l (inl b)) (λ (b : In l ms). a .mail l (inr (in-left l ms (w .post) b))) (in-split l ns ms b)
+              | inr b ↦ a .mail l (inr (in-right l ms (w .post) b))
             ];
       }
   chain-keeps post r past w i sub e (end {y = y} f) = record {

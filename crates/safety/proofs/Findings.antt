@@ -77,8 +77,8 @@ module _ (carries : ℕ → ℕ → Bool) (grows : Grows carries) (meets : Meets
     one-view i j v u a b e =
         let m : u .number .0 ≡ v .number .0 = ap (λ (y : Number). y .0) (sym e) in
         let s : v .set .0 ≡ u .set .0 =
-            inv (max i j) .rooted .single (v .number .0) (v .set .0) (u .set .0) (by-later i j (installs (v .number .0) (v .set .0)) (known i v a))
-            (subst (λ (y : ℕ). In (installs (v .number .0) (u .set .0)) (by-call y)) (max-comm j i) (by-later j i (installs (v .number .0) (u .set .0)) (subst (λ (y : ℕ). In (installs y (u .set .0)) (by-call j)) m (known j u b)))) in
+        inv (max i j) .rooted .single (v .number .0) (v .set .0) (u .set .0) (by-later i j (installs (v .number .0) (v .set .0)) (known i v a))
+        (subst (λ (y : ℕ). In (installs (v .number .0) (u .set .0)) (by-call y)) (max-comm j i) (by-later j i (installs (v .number .0) (u .set .0)) (subst (λ (y : ℕ). In (installs y (u .set .0)) (by-call j)) m (known j u b)))) in
         λ l. record { 0 = s l }
 
     -- a page has this view or not
@@ -117,7 +117,7 @@ module _ (carries : ℕ → ℕ → Bool) (grows : Grows carries) (meets : Meets
     one-number i v u a b =
         let r = changed-one carries first meets run i in
         let at-r : (y : View) → (c : Installed w calls (suc i) y) → c .by ≡ r .0 = λ y c.
-            ⊎-elim (λ (z : c .by ≡ r .0). z) (λ (d : c .by ≢ r .0). absurd (c .new i refl (sym (ap (λ (x : Node). x .component) (r .1 (c .by) d)) ∙ c .holds))) (cases-eq (c .by) (r .0)) in
+        ⊎-elim (λ (z : c .by ≡ r .0). z) (λ (d : c .by ≢ r .0). absurd (c .new i refl (sym (ap (λ (x : Node). x .component) (r .1 (c .by) d)) ∙ c .holds))) (cases-eq (c .by) (r .0)) in
         let e : a .by ≡ b .by = at-r v a ∙ sym (at-r u b) in
         view-inj (sym (a .holds) ∙ ap (λ (q : ℕ). world-at w calls (suc i) .at q .component) e ∙ b .holds) .0
 
@@ -141,7 +141,7 @@ module _ (carries : ℕ → ℕ → Bool) (grows : Grows carries) (meets : Meets
         (λ (b : Backed carries (by-call i) (v .number .0) (v .set .0)).
         let c = was-installed i (b .num) (b .set) (b .was) in
         let common : Within (b .set) (b .part) (both (v .set .0) (b .set)) =
-            λ q l m p. has-both (v .set .0) (b .set) q ∙ and-from (has (v .set .0) q) (has (b .set) q) (inv i .nodes q .within (b .num) (b .stamp) (v .set .0) (b .each q l p m)) m in
+        λ q l m p. has-both (v .set .0) (b .set) q ∙ and-from (has (v .set .0) q) (has (b .set) q) (inv i .nodes q .within (b .num) (b .stamp) (v .set .0) (b .each q l p m)) m in
         inr
         (record {
           view = view (b .num) (b .set);

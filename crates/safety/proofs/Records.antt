@@ -97,20 +97,24 @@ module _ (carries : ℕ → ℕ → Bool) (first : View) (past : History) (w : W
             (n-is, inl same-event);
         chose = λ j W t Y u.
             elim [
-              inl f ↦
-                (let z = records-inj f in
-                let y = same u .0 in
-                inl (sym (λ l. Some (recorded (suc (z .1 l)) (z .3 l) (z .2 l)))))
-            | inr f ↦ inr (subst (λ (y : ℕ). Dead carries past′ w′ j y t Y) (same u .1) (old-dead j t Y (same u .0) f))
+              | inl f ↦
+                  (let z = records-inj f in
+                  let y = same u .0 in
+                  inl (sym (λ l. Some (recorded (suc (z .1 l)) (z .3 l) (z .2 l)))))
+              | inr f ↦ inr (subst (λ (y : ℕ). Dead carries past′ w′ j y t Y) (same u .1) (old-dead j t Y (same u .0) f))
             ];
         known = λ j W u. inr (a .known j W u);
         free = λ z. inr tt;
-        row-ok = (at-head .0, at-head .1, record {
-          all-heard = λ j W u p b.
-              ⊎-elim (λ (g : has heard p ≡ true). inr (at-head .2 j W u p g))
-              (λ (g : p ≡ r). let y = same u .0 in let same-event : records p j (h .stamp .0) (h .set .0) ≡ event = cc in inl same-event) (add p b);
-          holds = (suc k, refl);
-        });
+        row-ok = (
+          at-head .0,
+          at-head .1,
+          record {
+            all-heard = λ j W u p b.
+                ⊎-elim (λ (g : has heard p ≡ true). inr (at-head .2 j W u p g))
+                (λ (g : p ≡ r). let y = same u .0 in let same-event : records p j (h .stamp .0) (h .set .0) ≡ event = cc in inl same-event) (add p b);
+            holds = (suc k, refl);
+          },
+        );
       }
 
   no-install : (n X : ℕ) → In (installs n X) past′ → In (installs n X) past

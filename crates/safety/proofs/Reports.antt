@@ -91,10 +91,14 @@ module _ (carries : ℕ → ℕ → Bool) (first : View) (past : History) (w : W
         chose = a .chose;
         known = a .known;
         free = free-still carries first past w r i (under h taken) (under h (round reports)) e (λ z. z);
-        row-ok = (b .0, b .1, record {
-          below = λ k t X u. b .2 k t X (no-record h taken e x ms may r k t X u);
-          own = own;
-          promised = λ q m u. let c = alone q m u in subst (λ (j : ℕ). Promise carries (forms h ∷ past) v j h m) (sym (c .0)) (subst (Promise carries (forms h ∷ past) v r h) (sym (c .1)) (own-promise h taken e x ms may));
-        });
+        row-ok = (
+          b .0,
+          b .1,
+          record {
+            below = λ k t X u. b .2 k t X (no-record h taken e x ms may r k t X u);
+            own = own;
+            promised = λ q m u. let c = alone q m u in subst (λ (j : ℕ). Promise carries (forms h ∷ past) v j h m) (sym (c .0)) (subst (Promise carries (forms h ∷ past) v r h) (sym (c .1)) (own-promise h taken e x ms may));
+          },
+        );
       })
       (λ m. elim [ inl u ↦ u | inr u ↦ absurd u ])

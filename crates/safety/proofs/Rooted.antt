@@ -42,7 +42,7 @@ module _ (carries : ℕ → ℕ → Bool) (first : View) where
             let v : d .set ≡ b .set = ro .single (b .num) (d .set) (b .set) (subst (λ (y : ℕ). In (installs y (d .set)) past) z (d .was)) (b .was) in
             let carried : carries (d .part) (b .set) ≡ true = subst (λ (y : ℕ). carries (d .part) y ≡ true) v (d .carried) in
             let each : (q : ℕ) → q < 16 → has (d .part) q ≡ true → has (b .set) q ≡ true → In (records q (b .num) (d .stamp) Y) past =
-              λ q l a u. subst (λ (y : ℕ). In (records q y (d .stamp) Y) past) z (d .each q l a (subst (λ (y : ℕ). has y q ≡ true) (sym v) u)) in
+            λ q l a u. subst (λ (y : ℕ). In (records q y (d .stamp) Y) past) z (d .each q l a (subst (λ (y : ℕ). has y q ≡ true) (sym v) u)) in
             let m = meets (b .part) (d .part) (b .set) (b .carried) carried in
             ⊎-elim (λ (a : (b .stamp ≡ d .stamp) × (X ≡ Y)). a .1)
             (λ (a : (V : ℕ) × In (installs (b .num) V) past × (Dead carries past w (b .num) V (b .stamp) X ⊎ Dead carries past w (b .num) V (d .stamp) Y)).
