@@ -35,23 +35,23 @@ module _ (carries : ℕ → ℕ → Bool) (first : View) (meets : Meets carries)
     move-keeps post sub y ms (begin-round h reports a b c) = keep-begin-round carries first past w r i h reports a b c
     move-keeps post sub y ms (tell-state h p v a b) = keep-tell-state carries first past w r i h p v a b
     move-keeps post sub y ms (answer h p a) = keep-answer carries first past w r i h p a
-    move-keeps post sub y ms (hear-gathering h heard more q k V a b c d) = keep-hear-gathering carries first past w r i h heard more q k V a b (sub _ c) d
-    move-keeps post sub y ms (hear-confirming h heard more q k V a b c d) = keep-hear-confirming carries first past w r i h heard more q k V a b (sub _ c) d
-    move-keeps post sub y ms (hear-state h o q v a b c) = keep-hear-state carries first past w r i h o q v a (sub _ b) c
-    move-keeps post sub y ms (hear-entering h v heard more q d a b c e) = keep-hear-entering carries first past w r i h v heard more q d a b (sub _ c) e
+    move-keeps post sub y ms (hear-gathering h v heard more q a b c d) = keep-hear-gathering carries first past w r i h heard more q (v .number .0) (v .set .0) a b (sub _ c) d
+    move-keeps post sub y ms (hear-confirming h v heard more q a b c d) = keep-hear-confirming carries first past w r i h heard more q (v .number .0) (v .set .0) a b (sub _ c) d
+    move-keeps post sub y ms (hear-state h old v q a b c) = keep-hear-state carries first past w r i h old q v a (sub _ b) c
+    move-keeps post sub y ms (hear-entering h v d heard more q a b c e) = keep-hear-entering carries first past w r i h v heard more q d a b (sub _ c) e
     move-keeps post sub y ms (hear-report h reports more q m a b c d) = keep-hear-report carries first past w r i h reports more q m a (sub _ b) c d
-    move-keeps post sub y ms (member-records h heard more k V a b c d) = keep-member-records carries first past w r i h heard more k V a b c d
-    move-keeps post sub y ms (newcomer-records h heard v a b c) = keep-newcomer-records carries first past w r i h heard v a b c
+    move-keeps post sub y ms (member-records h v heard more a b c d) = keep-member-records carries first past w r i h heard more (v .number .0) (v .set .0) a b c d
+    move-keeps post sub y ms (newcomer-records h v heard a b c) = keep-newcomer-records carries first past w r i h heard v a b c
     move-keeps post sub y ms (give-up h heard a) = keep-give-up carries first past w r i h heard a
     move-keeps post sub y ms leave = keep-leave carries first past w r i
     move-keeps post sub y ms close = keep-close carries first past w r i
     move-keeps post sub y ms (wait-again a) = keep-wait-again carries first past w r i a
 
     finish-keeps : (y : Node) (s : Option Settlement) (f : Finish carries r (w .at r) y s) → Invariant carries first (in-finish carries f ++ past) (put w r y [])
-    finish-keeps y s (member-installs h heard k V part d a b c e f) = keep-member-installs carries first meets past w r i h heard k V part d a b c e f
-    finish-keeps y s (newcomer-installs h v heard part d a b c e) = keep-newcomer-installs carries first meets past w r i h v heard part d a b c e
-    finish-keeps y s (settle h reports n X a d) = keep-settle carries first meets past w r i h reports a n X d
-    finish-keeps y s (settle-outside h reports n X a d) = keep-spare carries first past w r i [] (λ q k t Y u. u) (λ j Y u. u)
+    finish-keeps y s (member-installs h v d heard part a b c e f) = keep-member-installs carries first meets past w r i h heard (v .number .0) (v .set .0) part d a b c e f
+    finish-keeps y s (newcomer-installs h v d heard part a b c e) = keep-newcomer-installs carries first meets past w r i h v heard part d a b c e
+    finish-keeps y s (settle h v reports a d) = keep-settle carries first meets past w r i h reports a v d
+    finish-keeps y s (settle-outside h v reports a d) = keep-spare carries first past w r i [] (λ q k t Y u. u) (λ j Y u. u)
     finish-keeps y s become-spare = keep-spare carries first past w r i [] (λ q k t Y u. u) (λ j Y u. u)
 
     -- the same, of a replica that is known to be x

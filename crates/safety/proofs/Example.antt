@@ -184,28 +184,28 @@ hears-0 (suc zero) m e = inl e
 hears-0 (suc (suc q)) m e = absurd (none-some e)
 
 -- both marks are 8
-low : Low from-both 8
+low : Low from-both (view 8 3)
 low zero m e n f = let z : n .0 ≡ 8 = ap (λ (y : Number). y .0) (some-inj (sym f ∙ ap (λ (y : Report). y .mark) (sym (some-inj e)))) in omega arith
 low (suc zero) m e n f = let z : n .0 ≡ 8 = ap (λ (y : Number). y .0) (some-inj (sym f ∙ ap (λ (y : Report). y .mark) (sym (some-inj e)))) in omega arith
 low (suc (suc q)) m e n f = absurd (none-some e)
 
 -- 0 has view 8 and nothing recorded, and the mark of 1 is not above 8
-clear : (q : ℕ) → has 3 q ≡ true → (m : Report) × (from-both q ≡ Some m) × Clear 8 3 m
+clear : (q : ℕ) → has 3 q ≡ true → (m : Report) × (from-both q ≡ Some m) × Clear (view 8 3) m
 clear zero h = (content stopped-0, refl, inl (refl, refl))
 clear (suc zero) h = (content stopped-1, refl, inr (λ n f. let z : n .0 ≡ 8 = ap (λ (y : Number). y .0) (some-inj (sym f)) in omega arith))
 clear (suc (suc q)) h = absurd (no-more q h)
 
-decided : Decides from-both rule 8 3
+decided : Decides from-both rule (view 8 3)
 decided = by-clear (record { presumed = record { low = low; from = 0; report = content stopped-0; said = refl; level = refl }; part = 3; clear = clear; clear-carry = carry-8 })
 
 chain-1 : Chain rule [] 0 member (recorded-from 0 h₁ (number 8) ∷ []) None recorded-0
-chain-1 = go (take-up h₁ refl 0-in (omega arith)) (go (gather h₁ 0 refl nobody) (go (member-records h₁ 0 1 7 7 refl refl refl (λ p h. inr (only-0 p h))) rest))
+chain-1 = go (take-up h₁ refl 0-in (omega arith)) (go (gather h₁ 0 refl nobody) (go (member-records h₁ (view 7 7) 0 1 refl refl refl (λ p h. inr (only-0 p h))) rest))
 
 chain-2 : (post : List Message) → Chain rule post 1 member (recorded-from 1 h₁ (number 8) ∷ []) None recorded-1
-chain-2 post = go (take-up h₁ refl 1-in (omega arith)) (go (gather h₁ 0 refl nobody) (go (member-records h₁ 0 2 7 7 refl refl refl (λ p h. inr (only-1 p h))) rest))
+chain-2 post = go (take-up h₁ refl 1-in (omega arith)) (go (gather h₁ 0 refl nobody) (go (member-records h₁ (view 7 7) 0 2 refl refl refl (λ p h. inr (only-1 p h))) rest))
 
 chain-3 : Chain rule post₂ 0 recorded-0 [] None installed-0
-chain-3 = go (hear-confirming h₁ 1 3 1 7 7 refl refl (inl refl) adds-both) (end (member-installs h₁ 3 7 7 3 (recorded 8 3 1) refl refl refl (λ p h. h) carry-7))
+chain-3 = go (hear-confirming h₁ (view 7 7) 1 3 1 refl refl (inl refl) adds-both) (end (member-installs h₁ (view 7 7) (recorded 8 3 1) 3 3 refl refl refl (λ p h. h) carry-7))
 
 chain-8 : Chain rule post₂ 0 stopped-0 (report-0 ∷ []) None asking-0
 chain-8 = go (take-up h₂ refl 0-in (omega arith)) (go (begin-round h₂ from-0 refl refl alone-0) rest)
@@ -213,7 +213,7 @@ chain-8 = go (take-up h₂ refl 0-in (omega arith)) (go (begin-round h₂ from-0
 chain-9 : Chain rule (report-0 ∷ post₂) 1 stopped-1 (report-1 ∷ []) (Some (settlement h₂ (view 8 3))) settled-1
 chain-9 =
     go (take-up h₂ refl 1-in (omega arith))
-    (go (begin-round h₂ from-1 refl refl alone-1) (go (hear-report h₂ from-1 from-both 0 (content stopped-0) refl (inl refl) refl hears-0) (end (settle h₂ from-both 8 3 refl decided))))
+    (go (begin-round h₂ from-1 refl refl alone-1) (go (hear-report h₂ from-1 from-both 0 (content stopped-0) refl (inl refl) refl hears-0) (end (settle h₂ (view 8 3) from-both refl decided))))
 
 abbrev start : World
 start = world member member []

@@ -11,62 +11,68 @@ use Rattle.stores.specs.declared.view.Head.{Head}
 use Rattle.stores.specs.declared.view.Number.{Number}
 use Rattle.stores.specs.declared.view.View.{View}
 use Rattle.stores.specs.Views.{view}
-use Rattle.safety.specs.Replicas.{Report, holding, content, In, raise, Upto}
+use Rattle.safety.specs.Replicas.{number, Report, holding, content, In, raise, Upto}
 use Rattle.safety.specs.Replicas.Phase.{round}
 use Rattle.safety.specs.Replicas.Row.{under}
 use Rattle.safety.specs.Rounds.{Low, Decides}
 use Rattle.safety.specs.Runs.{World}
-use Rattle.safety.proofs.Fate.{Dead}
 use Rattle.safety.proofs.History.{Event, History, installs-inj, records-installs}
 use Rattle.safety.proofs.History.Event.{records, installs}
 use Rattle.safety.proofs.Invariant.{Rooted, Invariant, Later}
 use Rattle.safety.proofs.Marks.{Reaches, raise-keeps, raise-one, upto-not}
 use Rattle.safety.proofs.Worlds.{put}
 use Rattle.safety.specs.Rounds.Decides.{by-holders, by-clear, by-all}
-use Rattle.safety.proofs.Decisions.{in-round, held-next, held-backed, presumed-known, cleared-dead, complete-dead}
+use Rattle.safety.proofs.Decisions.{Dead-after, in-round, held-next, held-backed, presumed-known, cleared-dead, complete-dead}
 use Rattle.safety.proofs.Installs.{then, installed}
 use Rattle.safety.proofs.Rooted.{rooted-new}
 use Rattle.safety.proofs.Stays.{rooted-stays}
 
 module _ (carries : ℕ → ℕ → Bool) (first : View) (meets : Meets carries) (past : History) (w : World) (r : ℕ) (i : Invariant carries first past w)
     (h : Head) (reports : ℕ → Option Report) (e : w .at r .row ≡ under h (round reports)) where
-  own-mark : (k : ℕ) → Low reports k → Upto (w .at r .mark) (suc k)
-  own-mark k low = low r (content (w .at r)) (in-round carries first meets past w r i h reports e .own)
+  -- where no mark in the round is far above v's number, the own is not either
+  own-mark : (v : View) → Low reports v → Upto (w .at r .mark) (suc (v .number .0))
+  own-mark v low = low r (content (w .at r)) (in-round carries first meets past w r i h reports e .own)
 
-  no-records : (n X q k s Y : ℕ) → In (records q k s Y) (installs n X ∷ []) → ⊥
-  no-records n X q k s Y (inl u) = records-installs u
-  no-records n X q k s Y (inr u) = u
+  no-records : (v : View) (q k s Y : ℕ) → In (records q k s Y) (installs (v .number .0) (v .set .0) ∷ []) → ⊥
+  no-records v q k s Y (inl u) = records-installs u
+  no-records v q k s Y (inr u) = u
 
-  abbrev after : ℕ → ℕ → World
-  after n X = put w r (holding (w .at r) (raise (w .at r .mark) n) (view n X)) []
+  abbrev after : View → World
+  after v = put w r (holding (w .at r) (raise (w .at r .mark) (v .number .0)) v) []
+
+  abbrev past-after : View → History
+  past-after v = installs (v .number .0) (v .set .0) ∷ past
 
   -- the settled view becomes the component view
-  settling : (n X : ℕ) → Upto (w .at r .mark) (suc n) → ((s Y : ℕ) → In (records r n s Y) past → Dead carries past w n X s Y)
-      → (Later past w (installs n X ∷ past) (after n X) → Rooted carries first (installs n X ∷ past)) → Invariant carries first (installs n X ∷ past) (after n X)
-  settling n X up fate ro =
+  settling : (v : View) → Upto (w .at r .mark) (suc (v .number .0)) → ((s Y : ℕ) → In (records r (v .number .0) s Y) past → Dead-after carries first meets past w r i h reports e v s Y)
+      → (Later past w (past-after v) (after v) → Rooted carries first (past-after v)) → Invariant carries first (past-after v) (after v)
+  settling v up fate ro =
+      let n : ℕ = v .number .0 in
       let mark : Option Number = raise (w .at r .mark) n in
-      let km : (k : ℕ) → Reaches (w .at r .mark) k → Reaches mark k = λ k a. raise-keeps (w .at r .mark) n k a in
-      installed carries first past w r i mark n X (installs n X ∷ []) (no-records n X) (inl refl) (raise-one (w .at r .mark) n up) km fate
-      (ro (then carries first past w r i mark n X (installs n X ∷ []) (no-records n X) (inl refl) (raise-one (w .at r .mark) n up) km fate))
+      let es : History = installs n (v .set .0) ∷ [] in
+      let keeps : (k : ℕ) → Reaches (w .at r .mark) k → Reaches mark k = λ k a. raise-keeps (w .at r .mark) n k a in
+      installed carries first past w r i mark n (v .set .0) es (no-records v) (inl refl) (raise-one (w .at r .mark) n up) keeps fate
+      (ro (then carries first past w r i mark n (v .set .0) es (no-records v) (inl refl) (raise-one (w .at r .mark) n up) keeps fate))
 
   -- the settled view was installed before
-  again : (n X : ℕ) → In (installs n X) past → Later past w (installs n X ∷ past) (after n X) → Rooted carries first (installs n X ∷ past)
-  again n X a nx = rooted-stays carries past w (installs n X ∷ past) (after n X) nx first own (i .rooted)
+  again : (v : View) → In (installs (v .number .0) (v .set .0)) past → Later past w (past-after v) (after v) → Rooted carries first (past-after v)
+  again v a since = rooted-stays carries past w (past-after v) (after v) since first own (i .rooted)
     where
-      own : (j Y : ℕ) → In (installs j Y) (installs n X ∷ past) → In (installs j Y) past
+      own : (j Y : ℕ) → In (installs j Y) (past-after v) → In (installs j Y) past
       own j Y (inl u) = subst (λ (y : Event). In y past) (sym u) a
       own j Y (inr u) = u
 
-  pub keep-settle : (n X : ℕ) → Decides reports carries n X → Invariant carries first (installs n X ∷ past) (after n X)
-  keep-settle n X (by-holders k V d) =
-      let up : Upto (w .at r .mark) n = subst (Upto (w .at r .mark)) (sym (held-next carries first meets past w r i h reports e k V n X d)) (own-mark k (d .low)) in
-      settling n X (λ m a. let l = up m a in omega arith) (λ s Y u. absurd (upto-not (w .at r .mark) n up (i .nodes r .marked n s Y u)))
-      (λ nx. rooted-new carries first meets past w (installs n X ∷ past) (after n X) nx (i .rooted) (i .rivals) n X (held-backed carries first meets past w r i h reports e k V n X d) new)
+  pub keep-settle : (v : View) → Decides reports carries v → Invariant carries first (past-after v) (after v)
+  keep-settle v (by-holders u d c) =
+      let n : ℕ = d .view .number .0 in
+      let up : Upto (w .at r .mark) n = subst (Upto (w .at r .mark)) (sym (held-next carries first meets past w r i h reports e u d c)) (own-mark u (c .low)) in
+      settling (d .view) (λ m a. let l = up m a in omega arith) (λ s Y a. absurd (upto-not (w .at r .mark) n up (i .nodes r .marked n s Y a)))
+      (λ since. rooted-new carries first meets past w (past-after (d .view)) (after (d .view)) since (i .rooted) (i .rivals) n (d .view .set .0) (held-backed carries first meets past w r i h reports e u d c) new)
     where
-      new : (j Y : ℕ) → In (installs j Y) (installs n X ∷ past) → In (installs j Y) past ⊎ ((j ≡ n) × (Y ≡ X))
-      new j Y (inl u) = inr (installs-inj u)
-      new j Y (inr u) = inl u
-  keep-settle n X (by-clear d) =
-      settling n X (own-mark n (d .presumed .low)) (λ s Y u. cleared-dead carries first meets past w r i h reports e n X d s Y (in-round carries first meets past w r i h reports e .below n s Y u)) (again n X (presumed-known carries first meets past w r i h reports e n X (d .presumed)))
-  keep-settle n X (by-all d) =
-      settling n X (own-mark n (d .presumed .low)) (λ s Y u. complete-dead carries first meets past w r i h reports e n X d s Y (in-round carries first meets past w r i h reports e .below n s Y u)) (again n X (presumed-known carries first meets past w r i h reports e n X (d .presumed)))
+      new : (j Y : ℕ) → In (installs j Y) (past-after (d .view)) → In (installs j Y) past ⊎ ((j ≡ d .view .number .0) × (Y ≡ d .view .set .0))
+      new j Y (inl a) = inr (installs-inj a)
+      new j Y (inr a) = inl a
+  keep-settle v (by-clear c) =
+      settling v (own-mark v (c .presumed .low)) (λ s Y u. cleared-dead carries first meets past w r i h reports e v c s Y (in-round carries first meets past w r i h reports e .below (v .number .0) s Y u)) (again v (presumed-known carries first meets past w r i h reports e v (c .presumed)))
+  keep-settle v (by-all c) =
+      settling v (own-mark v (c .presumed .low)) (λ s Y u. complete-dead carries first meets past w r i h reports e v c s Y (in-round carries first meets past w r i h reports e .below (v .number .0) s Y u)) (again v (presumed-known carries first meets past w r i h reports e v (c .presumed)))

@@ -44,14 +44,14 @@ formed-in-move (begin-round g reports a b c) h (inr u) = absurd u
 formed-in-move (tell-state g p v a b) h u = absurd u
 formed-in-move {r = r} {x = x} (answer g p a) h (inl u) = (r, content x, inl (ap (λ (y : Head). report-from r y (content x)) (forms-inj u)))
 formed-in-move (answer g p a) h (inr u) = absurd u
-formed-in-move (hear-gathering g heard more q k V a b c d) h u = absurd u
-formed-in-move (hear-confirming g heard more q k V a b c d) h u = absurd u
-formed-in-move (hear-state g o q v a b c) h u = absurd u
-formed-in-move (hear-entering g v heard more q d a b c e) h u = absurd u
+formed-in-move (hear-gathering g v heard more q a b c d) h u = absurd u
+formed-in-move (hear-confirming g v heard more q a b c d) h u = absurd u
+formed-in-move (hear-state g old v q a b c) h u = absurd u
+formed-in-move (hear-entering g v d heard more q a b c e) h u = absurd u
 formed-in-move (hear-report g reports more q m a b c d) h u = absurd u
-formed-in-move (member-records g heard more k V a b c d) h (inl u) = absurd (records-forms (sym u))
-formed-in-move (member-records g heard more k V a b c d) h (inr u) = absurd u
-formed-in-move (newcomer-records g heard v a b c) h u = absurd u
+formed-in-move (member-records g v heard more a b c d) h (inl u) = absurd (records-forms (sym u))
+formed-in-move (member-records g v heard more a b c d) h (inr u) = absurd u
+formed-in-move (newcomer-records g v heard a b c) h u = absurd u
 formed-in-move (give-up g heard a) h u = absurd u
 formed-in-move leave h u = absurd u
 formed-in-move close h u = absurd u
@@ -67,14 +67,14 @@ no-install (begin-round g reports a b c) n X (inr u) = u
 no-install (tell-state g p v a b) n X u = u
 no-install (answer g p a) n X (inl u) = installs-forms u
 no-install (answer g p a) n X (inr u) = u
-no-install (hear-gathering g heard more q k V a b c d) n X u = u
-no-install (hear-confirming g heard more q k V a b c d) n X u = u
-no-install (hear-state g o q v a b c) n X u = u
-no-install (hear-entering g v heard more q d a b c e) n X u = u
+no-install (hear-gathering g v heard more q a b c d) n X u = u
+no-install (hear-confirming g v heard more q a b c d) n X u = u
+no-install (hear-state g old v q a b c) n X u = u
+no-install (hear-entering g v d heard more q a b c e) n X u = u
 no-install (hear-report g reports more q m a b c d) n X u = u
-no-install (member-records g heard more k V a b c d) n X (inl u) = records-installs (sym u)
-no-install (member-records g heard more k V a b c d) n X (inr u) = u
-no-install (newcomer-records g heard v a b c) n X u = u
+no-install (member-records g v heard more a b c d) n X (inl u) = records-installs (sym u)
+no-install (member-records g v heard more a b c d) n X (inr u) = u
+no-install (newcomer-records g v heard a b c) n X u = u
 no-install (give-up g heard a) n X u = u
 no-install leave n X u = u
 no-install close n X u = u
@@ -91,13 +91,13 @@ settlement-view e = ap (λ (y : Settlement). y .view) (some-inj e)
 
 module _ (carries : ℕ → ℕ → Bool) where
   formed-in-finish : {r : ℕ} {x y : Node} {s : Option Settlement} (f : Finish carries r x y s) (h : Head) → In (forms h) (in-finish carries f) → ⊥
-  formed-in-finish (member-installs g heard k V part d a b c e f) h (inl u) = installs-forms (sym u)
-  formed-in-finish (member-installs g heard k V part d a b c e f) h (inr u) = u
-  formed-in-finish (newcomer-installs g v heard part d a b c e) h (inl u) = installs-forms (sym u)
-  formed-in-finish (newcomer-installs g v heard part d a b c e) h (inr u) = u
-  formed-in-finish (settle g reports n X a d) h (inl u) = installs-forms (sym u)
-  formed-in-finish (settle g reports n X a d) h (inr u) = u
-  formed-in-finish (settle-outside g reports n X a d) h u = u
+  formed-in-finish (member-installs g u d heard part a b c e f) h (inl z) = installs-forms (sym z)
+  formed-in-finish (member-installs g u d heard part a b c e f) h (inr z) = z
+  formed-in-finish (newcomer-installs g u d heard part a b c e) h (inl z) = installs-forms (sym z)
+  formed-in-finish (newcomer-installs g u d heard part a b c e) h (inr z) = z
+  formed-in-finish (settle g u reports a d) h (inl z) = installs-forms (sym z)
+  formed-in-finish (settle g u reports a d) h (inr z) = z
+  formed-in-finish (settle-outside g u reports a d) h z = z
   formed-in-finish become-spare h u = u
 
   pub formed-in-chain : {post : List Message} {r : ℕ} {x z : Node} {ms : List Message} {s : Option Settlement} (c : Chain carries post r x ms s z) (h : Head) → In (forms h) (in-chain carries c) → (q : ℕ) × (n : Report) × In (report-from q h n) ms
@@ -109,13 +109,13 @@ module _ (carries : ℕ → ℕ → Bool) where
 
   -- what a chain installs it holds at its end
   installed-by-finish : {r : ℕ} {x y : Node} {s : Option Settlement} (f : Finish carries r x y s) (n X : ℕ) → In (installs n X) (in-finish carries f) → y .component ≡ Some (view n X)
-  installed-by-finish (member-installs g heard k V part d a b c e f) n X (inl u) = view-at u
-  installed-by-finish (member-installs g heard k V part d a b c e f) n X (inr u) = absurd u
-  installed-by-finish (newcomer-installs g v heard part d a b c e) n X (inl u) = view-at u
-  installed-by-finish (newcomer-installs g v heard part d a b c e) n X (inr u) = absurd u
-  installed-by-finish (settle g reports m Y a d) n X (inl u) = view-at u
-  installed-by-finish (settle g reports m Y a d) n X (inr u) = absurd u
-  installed-by-finish (settle-outside g reports m Y a d) n X u = absurd u
+  installed-by-finish (member-installs g u d heard part a b c e f) n X (inl z) = view-at z
+  installed-by-finish (member-installs g u d heard part a b c e f) n X (inr z) = absurd z
+  installed-by-finish (newcomer-installs g u d heard part a b c e) n X (inl z) = view-at z
+  installed-by-finish (newcomer-installs g u d heard part a b c e) n X (inr z) = absurd z
+  installed-by-finish (settle g u reports a d) n X (inl z) = view-at z
+  installed-by-finish (settle g u reports a d) n X (inr z) = absurd z
+  installed-by-finish (settle-outside g u reports a d) n X z = absurd z
   installed-by-finish become-spare n X u = absurd u
 
   pub installed-by-chain : {post : List Message} {r : ℕ} {x z : Node} {ms : List Message} {s : Option Settlement} (c : Chain carries post r x ms s z) (n X : ℕ) → In (installs n X) (in-chain carries c) → z .component ≡ Some (view n X)
@@ -131,20 +131,20 @@ module _ (carries : ℕ → ℕ → Bool) where
       pub least : (then : History) → Was then past → Rooted carries first then → (In (forms h) then → ⊥) → (m Y : ℕ) → In (installs m Y) then → m ≤ n
 
     module _ (past : History) (w : World) (r : ℕ) (i : Invariant carries first past w) where
-      decided : (es : History) (g h : Head) (reports : ℕ → Option Report) (n X : ℕ) (v : View) → w .at r .row ≡ under g (round reports) → Decides reports carries n X → _≡_ {A = Option Settlement} (Some (settlement g (view n X))) (Some (settlement h v)) → Settled past es h (v .number .0)
-      decided es g h reports n X v a d u =
-          subst (λ (y : Head). Settled past es y (v .number .0)) (settlement-head u)
-          (subst (λ (y : View). Settled past es g (y .number .0)) (settlement-view u)
+      decided : (es : History) (g h : Head) (reports : ℕ → Option Report) (u v : View) → w .at r .row ≡ under g (round reports) → Decides reports carries u → _≡_ {A = Option Settlement} (Some (settlement g u)) (Some (settlement h v)) → Settled past es h (v .number .0)
+      decided es g h reports u v a d e =
+          subst (λ (y : Head). Settled past es y (v .number .0)) (settlement-head e)
+          (subst (λ (y : View). Settled past es g (y .number .0)) (settlement-view e)
           (record {
             formed = in-right (forms g) es past (formed-in-round carries first meets past w r i g reports a);
-            least = λ then was ro early j Y b. never-back carries first meets past w r i g reports a then was ro early n X d j Y b;
+            least = λ then was ro early j Y b. never-back carries first meets past w r i g reports a then was ro early u d j Y b;
           }))
 
       settled-by-finish : (y : Node) (s : Option Settlement) (f : Finish carries r (w .at r) y s) (h : Head) (v : View) → s ≡ Some (settlement h v) → Settled past (in-finish carries f) h (v .number .0)
-      settled-by-finish y s (member-installs g heard k V part d a b c e f) h v u = absurd (none-some u)
-      settled-by-finish y s (newcomer-installs g z heard part d a b c e) h v u = absurd (none-some u)
-      settled-by-finish y s (settle g reports n X a d) h v u = decided (installs n X ∷ []) g h reports n X v a d u
-      settled-by-finish y s (settle-outside g reports n X a d) h v u = decided [] g h reports n X v a d u
+      settled-by-finish y s (member-installs g u d heard part a b c e f) h v z = absurd (none-some z)
+      settled-by-finish y s (newcomer-installs g u d heard part a b c e) h v z = absurd (none-some z)
+      settled-by-finish y s (settle g u reports a d) h v z = decided (installs (u .number .0) (u .set .0) ∷ []) g h reports u v a d z
+      settled-by-finish y s (settle-outside g u reports a d) h v z = decided [] g h reports u v a d z
       settled-by-finish y s become-spare h v u = absurd (none-some u)
 
     pub settled-by-chain : (post : List Message) (r : ℕ) (past : History) (w : World) → Invariant carries first past w → ((m : Message) → In m post → In m (w .post)) → {x z : Node} {ms : List Message} {s : Option Settlement} → w .at r ≡ x → (c : Chain carries post r x ms s z) (h : Head) (v : View) → s ≡ Some (settlement h v) → Settled past (in-chain carries c) h (v .number .0)

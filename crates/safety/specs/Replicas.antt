@@ -12,9 +12,19 @@ use Rattle.stores.specs.declared.view.Number.{Number}
 use Rattle.stores.specs.declared.view.Recorded.{Recorded}
 use Rattle.stores.specs.declared.view.Stamp.{Stamp}
 use Rattle.stores.specs.declared.view.View.{View}
+use Rattle.stores.specs.Views.{recorded}
 
 abbrev pub number : ℕ → Number
 number n = record { 0 = n }
+
+-- a mark raised to n
+abbrev pub raise : Option Number → ℕ → Option Number
+raise None n = Some (number n)
+raise (Some m) n = Some (number (max (m .0) n))
+
+-- the mark is absent, or not above n
+abbrev pub Upto : Option Number → ℕ → Type 0
+Upto mark n = (m : Number) → mark ≡ Some m → m .0 ≤ n
 
 -- What a replica reports of its page: its mark, its component view and its recorded view.
 pub record Report : Type 0 where
@@ -49,7 +59,7 @@ pub record Node : Type 0 where
   pub row : Row
 
 abbrev pub node : Bool → Stamp → Option Number → Option View → Option Recorded → Row → Node
-node normal top mark component recorded row = record { normal = normal; top = top; mark = mark; component = component; recorded = recorded; row = row }
+node normal top mark component held row = record { normal = normal; top = top; mark = mark; component = component; recorded = held; row = row }
 
 abbrev pub with-row : Node → Row → Node
 with-row x row = node (x .normal) (x .top) (x .mark) (x .component) (x .recorded) row
@@ -57,6 +67,14 @@ with-row x row = node (x .normal) (x .top) (x .mark) (x .component) (x .recorded
 -- out of normal mode, or down
 abbrev pub leaving : Node → Row → Node
 leaving x row = node false (x .top) (x .mark) (x .component) (x .recorded) row
+
+-- under a head just taken up: the top stamp is the head's
+abbrev pub taking-up : Node → Head → Node
+taking-up x h = node (x .normal) (h .stamp) (x .mark) (x .component) (x .recorded) (under h taken)
+
+-- the head is recorded with the number n, and the mark raised to it
+abbrev pub recording : Node → Bool → ℕ → Head → Phase → Node
+recording x normal n h phase = node normal (x .top) (raise (x .mark) n) (x .component) (Some (recorded n (h .set .0) (h .stamp .0))) (under h phase)
 
 -- v is the component view now: nothing is recorded, the mode is normal, and the head is closed
 abbrev pub holding : Node → Option Number → View → Node
@@ -82,12 +100,3 @@ module _ {A : Type 0} where
   abbrev pub In : A → List A → Type 0
   In a [] = ⊥
   In a (x ∷ xs) = (a ≡ x) ⊎ In a xs
-
--- a mark raised to n
-abbrev pub raise : Option Number → ℕ → Option Number
-raise None n = Some (number n)
-raise (Some m) n = Some (number (max (m .0) n))
-
--- the mark is absent, or not above n
-abbrev pub Upto : Option Number → ℕ → Type 0
-Upto mark n = (m : Number) → mark ≡ Some m → m .0 ≤ n
