@@ -13,7 +13,7 @@ use Rattle.stores.specs.declared.view.Number.{Number}
 use Rattle.stores.specs.declared.view.Stamp.{Stamp}
 use Rattle.stores.specs.declared.view.View.{View}
 use Rattle.stores.specs.Views.{view, recorded, head}
-use Rattle.safety.specs.Replicas.{number, Report, Node, node, leaving, content, Message}
+use Rattle.safety.specs.Replicas.{number, Report, Node, node, with-row, leaving, taking-up, recording, holding, content, Message, raise}
 use Rattle.safety.specs.Replicas.Phase.{confirming, round}
 use Rattle.safety.specs.Replicas.Row.{idle, under}
 use Rattle.safety.specs.Replicas.Message.{recorded-from, report-from}
@@ -64,15 +64,6 @@ unfolding has
 unfolding has
 0-alone = refl
 
--- both carry view 7, and view 8
-carry-7 : rule 3 7 ≡ true
-unfolding has tally
-carry-7 = refl
-
-carry-8 : rule 3 3 ≡ true
-unfolding has tally
-carry-8 = refl
-
 adds-both : Adds 1 1 3
 adds-both zero h = inl 0-alone
 adds-both (suc zero) h = inr refl
@@ -96,10 +87,10 @@ outsider = node false (stamp 0) None None None idle
 
 -- replica 0: it has recorded view 8, installed it, is stopped, and in a round
 abbrev recorded-0 : Node
-recorded-0 = node true (stamp 1) (Some (number 8)) (Some (view 7 7)) (Some (recorded 8 3 1)) (under h₁ (confirming 1))
+recorded-0 = recording (taking-up member h₁) true 8 h₁ (confirming 1)
 
 abbrev installed-0 : Node
-installed-0 = node true (stamp 1) (Some (number 8)) (Some (view 8 3)) None idle
+installed-0 = holding recorded-0 (recorded-0 .mark) (view 8 3)
 
 abbrev stopped-0 : Node
 stopped-0 = leaving installed-0 idle
@@ -109,11 +100,11 @@ from-0 zero = Some (content stopped-0)
 from-0 (suc q) = None
 
 abbrev asking-0 : Node
-asking-0 = node false (stamp 2) (Some (number 8)) (Some (view 8 3)) None (under h₂ (round from-0))
+asking-0 = with-row (taking-up stopped-0 h₂) (under h₂ (round from-0))
 
 -- replica 1: it has recorded view 8, is stopped, and has settled on view 8
 abbrev recorded-1 : Node
-recorded-1 = node true (stamp 1) (Some (number 8)) (Some (view 7 7)) (Some (recorded 8 3 1)) (under h₁ (confirming 2))
+recorded-1 = recording (taking-up member h₁) true 8 h₁ (confirming 2)
 
 abbrev stopped-1 : Node
 stopped-1 = leaving recorded-1 idle
@@ -129,7 +120,7 @@ from-both (suc zero) = Some (content stopped-1)
 from-both (suc (suc q)) = None
 
 abbrev settled-1 : Node
-settled-1 = node true (stamp 2) (Some (number 8)) (Some (view 8 3)) None idle
+settled-1 = holding (taking-up stopped-1 h₂) (raise (stopped-1 .mark) 8) (view 8 3)
 
 abbrev place : Node → Node → ℕ → Node
 place x y zero = x
@@ -185,18 +176,19 @@ hears-0 (suc (suc q)) m e = absurd (none-some e)
 
 -- both marks are 8
 low : Low from-both (view 8 3)
-low zero m e n f = let z : n .0 ≡ 8 = ap (λ (y : Number). y .0) (some-inj (sym f ∙ ap (λ (y : Report). y .mark) (sym (some-inj e)))) in omega arith
-low (suc zero) m e n f = let z : n .0 ≡ 8 = ap (λ (y : Number). y .0) (some-inj (sym f ∙ ap (λ (y : Report). y .mark) (sym (some-inj e)))) in omega arith
+low zero m e n f = let z = ap (λ (y : Number). y .0) (some-inj (sym f ∙ ap (λ (y : Report). y .mark) (sym (some-inj e)))) in omega arith
+low (suc zero) m e n f = let z = ap (λ (y : Number). y .0) (some-inj (sym f ∙ ap (λ (y : Report). y .mark) (sym (some-inj e)))) in omega arith
 low (suc (suc q)) m e n f = absurd (none-some e)
 
 -- 0 has view 8 and nothing recorded, and the mark of 1 is not above 8
 clear : (q : ℕ) → has 3 q ≡ true → (m : Report) × (from-both q ≡ Some m) × Clear (view 8 3) m
 clear zero h = (content stopped-0, refl, inl (refl, refl))
-clear (suc zero) h = (content stopped-1, refl, inr (λ n f. let z : n .0 ≡ 8 = ap (λ (y : Number). y .0) (some-inj (sym f)) in omega arith))
+clear (suc zero) h = (content stopped-1, refl, inr (λ n f. let z = ap (λ (y : Number). y .0) (some-inj (sym f)) in omega arith))
 clear (suc (suc q)) h = absurd (no-more q h)
 
 decided : Decides from-both rule (view 8 3)
-decided = by-clear (record { presumed = record { low = low; from = 0; report = content stopped-0; said = refl; level = refl }; part = 3; clear = clear; clear-carry = carry-8 })
+unfolding has tally
+decided = by-clear (record { presumed = record { low = low; from = 0; report = content stopped-0; said = refl; level = refl }; part = 3; clear = clear; clear-carry = refl })
 
 chain-1 : Chain rule [] 0 member (recorded-from 0 h₁ (number 8) ∷ []) None recorded-0
 chain-1 = go (take-up h₁ refl 0-in (omega arith)) (go (gather h₁ 0 refl nobody) (go (member-records h₁ (view 7 7) 0 1 refl refl refl (λ p h. inr (only-0 p h))) rest))
@@ -204,8 +196,10 @@ chain-1 = go (take-up h₁ refl 0-in (omega arith)) (go (gather h₁ 0 refl nobo
 chain-2 : (post : List Message) → Chain rule post 1 member (recorded-from 1 h₁ (number 8) ∷ []) None recorded-1
 chain-2 post = go (take-up h₁ refl 1-in (omega arith)) (go (gather h₁ 0 refl nobody) (go (member-records h₁ (view 7 7) 0 2 refl refl refl (λ p h. inr (only-1 p h))) rest))
 
+-- 0 hears 1; both carry view 7
 chain-3 : Chain rule post₂ 0 recorded-0 [] None installed-0
-chain-3 = go (hear-confirming h₁ (view 7 7) 1 3 1 refl refl (inl refl) adds-both) (end (member-installs h₁ (view 7 7) (recorded 8 3 1) 3 3 refl refl refl (λ p h. h) carry-7))
+unfolding has tally
+chain-3 = go (hear-confirming h₁ (view 7 7) 1 3 1 refl refl (inl refl) adds-both) (end (member-installs h₁ (view 7 7) (recorded 8 3 1) 3 3 refl refl refl (λ p h. h) refl))
 
 chain-8 : Chain rule post₂ 0 stopped-0 (report-0 ∷ []) None asking-0
 chain-8 = go (take-up h₂ refl 0-in (omega arith)) (go (begin-round h₂ from-0 refl refl alone-0) rest)

@@ -47,14 +47,14 @@ module _ (carries : ℕ → ℕ → Bool) (first : View) (past : History) (w : W
         record {
           before = past;
           formed = was-same (forms h ∷ past);
-          known = λ k V u. inr (a .known k V u);
-          both = λ k V n X s u f. let c = a .both k V n X s u f in (c .0, inr (c .1));
           marked = a .marked;
           chose = λ k V s X u f.
               ⊎-elim (λ (c : w .at r .recorded ≡ Some (recorded (suc k) X s)). inl c)
               (λ (d : Dead carries past w k V s X). inr (dead-stays carries past w (forms h ∷ past) (put w r x ms) told k V s X d)) (a .chose k V s X u f);
           only-above = λ s X u. low s X (told .may r s X u);
           all-before = λ k s X l u. no-record r k s X u;
+          known = λ k V u. inr (a .known k V u);
+          both = λ k V n X s u f. let c = a .both k V n X s u f in (c .0, inr (c .1));
         }
 
     reported : Node-ok carries (forms h ∷ past) (put w r x ms) r x → ((m : Message) → In m ms → m ≡ report-from r h (content (w .at r))) → Invariant carries first (forms h ∷ past) (put w r x ms)
