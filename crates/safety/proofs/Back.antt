@@ -13,8 +13,8 @@ use Rattle.quorum.specs.Laws.{Meets}
 use Rattle.stores.specs.declared.view.Head.{Head}
 use Rattle.stores.specs.declared.view.Recorded.{Recorded}
 use Rattle.stores.specs.declared.view.View.{View}
-use Rattle.stores.specs.Views.{view, recorded}
-use Rattle.safety.specs.Replicas.{number, Report, content, In, Upto}
+use Rattle.stores.specs.Views.{recorded}
+use Rattle.safety.specs.Replicas.{Report, content, In, Upto}
 use Rattle.safety.specs.Replicas.Phase.{round}
 use Rattle.safety.specs.Replicas.Row.{under}
 use Rattle.safety.specs.Rounds.{Holds, Held, Cleared, Complete, Decides}
@@ -24,7 +24,6 @@ use Rattle.safety.proofs.History.Event.{records, installs, forms}
 use Rattle.safety.proofs.Invariant.{Backed, Rooted, Invariant}
 use Rattle.safety.proofs.Lists.{Was, was-in, was-either}
 use Rattle.safety.proofs.Marks.{upto-not}
-use Rattle.safety.proofs.Worlds.{there, by}
 use Rattle.safety.specs.Rounds.Decides.{by-holders, by-clear, by-all}
 use Rattle.safety.proofs.Decisions.{Dead-after, in-round, promise, not-clear, holder, held-next, held-known, held-backed, presumed-known}
 use Rattle.safety.proofs.Rooted.{at-least-first, unique}

@@ -7,14 +7,12 @@ use Prim.Native.Nat.{ℕ, _<_, _≤_}
 use Rattle.std.proofs.shelf.Tests.{cases-eq}
 use Rattle.std.specs.declared.option.Option.{Option}
 use Rattle.std.specs.declared.option.Option.the-variants.{Some, None}
-use Rattle.quorum.specs.Members.{has}
 use Rattle.quorum.specs.Laws.{Meets}
 use Rattle.stores.specs.declared.view.Head.{Head}
 use Rattle.stores.specs.declared.view.View.{View}
 use Rattle.stores.specs.Views.{view, head}
-use Rattle.safety.specs.Replicas.{number, Report, Node, leaving, Message, In}
-use Rattle.safety.specs.Replicas.Phase.{round}
-use Rattle.safety.specs.Replicas.Row.{idle, under}
+use Rattle.safety.specs.Replicas.{Report, Node, leaving, Message, In}
+use Rattle.safety.specs.Replicas.Row.{idle}
 use Rattle.safety.specs.Replicas.Message.{report-from}
 use Rattle.safety.specs.Moves.{Settlement, settlement, Chain}
 use Rattle.safety.specs.Runs.{World, Turned, Step, Call}
@@ -24,9 +22,7 @@ use Rattle.safety.proofs.History.Event.{installs, forms}
 use Rattle.safety.proofs.Invariant.{Node-ok, Rooted, Invariant, Later}
 use Rattle.safety.proofs.Lists.{in-split, Was, was-same}
 use Rattle.safety.proofs.Marks.{none-some, false-true}
-use Rattle.safety.proofs.Worlds.{here}
 use Rattle.safety.specs.Runs.Call.{whole, cut-new, cut-old}
-use Rattle.safety.specs.Runs.Run.{call}
 use Rattle.safety.proofs.Chains.{chain-keeps}
 use Rattle.safety.proofs.Stays.{node-stays, message-stays, rivals-stay}
 use Rattle.safety.proofs.Tells.{formed-in-chain, installed-by-chain, settled-by-chain}

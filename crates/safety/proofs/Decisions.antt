@@ -11,8 +11,8 @@ use Rattle.quorum.specs.Laws.{Meets}
 use Rattle.stores.specs.declared.view.Head.{Head}
 use Rattle.stores.specs.declared.view.Recorded.{Recorded}
 use Rattle.stores.specs.declared.view.View.{View}
-use Rattle.stores.specs.Views.{view, recorded, head}
-use Rattle.safety.specs.Replicas.{number, Report, In, Upto}
+use Rattle.stores.specs.Views.{recorded}
+use Rattle.safety.specs.Replicas.{Report, In, Upto}
 use Rattle.safety.specs.Replicas.Phase.{round}
 use Rattle.safety.specs.Replicas.Row.{under}
 use Rattle.safety.specs.Rounds.{Level, Clear, Holds, Held, Presumed, Cleared, Complete}

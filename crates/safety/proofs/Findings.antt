@@ -13,7 +13,7 @@ use Rattle.quorum.specs.Laws.{Grows, Meets}
 use Rattle.stores.specs.declared.view.Number.{Number}
 use Rattle.stores.specs.declared.view.View.{View}
 use Rattle.stores.specs.Views.{view, recorded}
-use Rattle.safety.specs.Replicas.{number, Node, In}
+use Rattle.safety.specs.Replicas.{Node, In}
 use Rattle.safety.specs.Runs.{World, Step, Run, world-at, Started}
 use Rattle.safety.proofs.History.{Event, History, installs-inj, records-installs, installs-forms}
 use Rattle.safety.proofs.History.Event.{records, installs, forms}

@@ -12,7 +12,7 @@ use Rattle.stores.specs.declared.view.Head.{Head}
 use Rattle.stores.specs.declared.view.Number.{Number}
 use Rattle.stores.specs.declared.view.Recorded.{Recorded}
 use Rattle.stores.specs.declared.view.View.{View}
-use Rattle.stores.specs.Views.{view, recorded, head}
+use Rattle.stores.specs.Views.{view, recorded}
 use Rattle.safety.specs.Replicas.{number, Node, holding, spare, In}
 use Rattle.safety.specs.Replicas.Phase.{confirming, entering}
 use Rattle.safety.specs.Replicas.Row.{under}

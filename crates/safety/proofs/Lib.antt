@@ -1,5 +1,5 @@
-mod Lists
-mod Marks
+pub mod Lists
+pub mod Marks
 mod History
 mod Worlds
 mod Fate
@@ -20,5 +20,5 @@ mod Chains
 mod Tells
 mod Calls
 mod Runs
-mod Findings
+pub mod Findings
 mod Example

@@ -9,9 +9,8 @@ use Rattle.std.specs.declared.option.Option.the-variants.{Some, None}
 use Rattle.quorum.specs.Members.{has}
 use Rattle.stores.specs.declared.view.Head.{Head}
 use Rattle.stores.specs.declared.view.View.{View}
-use Rattle.stores.specs.Views.{recorded}
-use Rattle.safety.specs.Replicas.{number, Phase, Node, node, Message, raise}
-use Rattle.safety.specs.Replicas.Phase.{taken, applying, entering}
+use Rattle.safety.specs.Replicas.{Phase, Node, node, taking-up, recording, Message}
+use Rattle.safety.specs.Replicas.Phase.{applying, entering}
 use Rattle.safety.specs.Replicas.Row.{idle, under}
 use Rattle.safety.specs.Replicas.Message.{state-from}
 use Rattle.safety.specs.Moves.{Empty}
@@ -33,9 +32,9 @@ module _ (carries : ℕ → ℕ → Bool) (first : View) (past : History) (w : W
       (node-stays carries past w past u (silent carries first past w r i (w .at r) ms (λ s X a. a)) r (λ k s X b. b) (w .at r) (i .nodes r))
       (λ m. elim [ inl b ↦ subst (Message-ok carries past u) (sym b) (i .nodes r .known (v .number .0) (v .set .0) f) | inr b ↦ absurd b ])
 
-  pub keep-take-up : (h : Head) → w .at r .row ≡ idle → has (h .set .0) r ≡ true → w .at r .top .0 < h .stamp .0 → Invariant carries first past (put w r (node (w .at r .normal) (h .stamp) (w .at r .mark) (w .at r .component) (w .at r .recorded) (under h taken)) [])
+  pub keep-take-up : (h : Head) → w .at r .row ≡ idle → has (h .set .0) r ≡ true → w .at r .top .0 < h .stamp .0 → Invariant carries first past (put w r (taking-up (w .at r) h) [])
   keep-take-up h shut mine lt =
-      let x : Node = node (w .at r .normal) (h .stamp) (w .at r .mark) (w .at r .component) (w .at r .recorded) (under h taken) in
+      let x : Node = taking-up (w .at r) h in
       let v : World = put w r x [] in
       let may : (t Y : ℕ) → May x t Y → May (w .at r) t Y = λ t Y. elim [ inl l ↦ inl (omega arith) | inr e ↦ inl (let z = ap (λ (y : Head). y .stamp .0) (some-inj e) in omega arith) ] in
       let a : Node-ok carries past v r (w .at r) = node-stays carries past w past v (silent carries first past w r i x [] may) r (λ k t Y e. e) (w .at r) (i .nodes r) in
@@ -75,9 +74,9 @@ module _ (carries : ℕ → ℕ → Bool) (first : View) (past : History) (w : W
       (λ m e. absurd e)
 
   pub keep-newcomer-records : (h : Head) (heard : ℕ) (v : View) → w .at r .row ≡ under h (applying (Some v)) → w .at r .component ≡ None → Empty heard
-      → Invariant carries first past (put w r (node false (w .at r .top) (raise (w .at r .mark) (suc (v .number .0))) (w .at r .component) (Some (recorded (suc (v .number .0)) (h .set .0) (h .stamp .0))) (under h (entering v heard))) [])
+      → Invariant carries first past (put w r (recording (w .at r) false (suc (v .number .0)) h (entering v heard)) [])
   keep-newcomer-records h heard v e none nobody =
-      let x : Node = node false (w .at r .top) (raise (w .at r .mark) (suc (v .number .0))) (w .at r .component) (Some (recorded (suc (v .number .0)) (h .set .0) (h .stamp .0))) (under h (entering v heard)) in
+      let x : Node = recording (w .at r) false (suc (v .number .0)) h (entering v heard) in
       let may : (t Y : ℕ) → May x t Y → May (w .at r) t Y = λ t Y. elim [ inl l ↦ inl l | inr u ↦ inr (ap head-of e ∙ u) ] in
       let a = i .nodes r in
       let b = at-row carries first past w r i (under h (applying (Some v))) e in

@@ -7,7 +7,7 @@ use Prim.Native.Nat.{ℕ}
 use Rattle.std.specs.declared.option.Option.the-variants.{Some, None}
 use Rattle.stores.specs.declared.view.Head.{Head}
 use Rattle.stores.specs.declared.view.View.{View}
-use Rattle.stores.specs.Views.{recorded, head}
+use Rattle.stores.specs.Views.{head}
 use Rattle.safety.specs.Replicas.{Phase, Row, Node, node, Message, In}
 use Rattle.safety.specs.Replicas.Row.{under}
 use Rattle.safety.specs.Runs.{World}

@@ -10,7 +10,7 @@ use Rattle.quorum.specs.Members.{has}
 use Rattle.stores.specs.declared.view.Head.{Head}
 use Rattle.stores.specs.declared.view.View.{View}
 use Rattle.stores.specs.Views.{view, recorded}
-use Rattle.safety.specs.Replicas.{number, Row, Node, node, Message, In, raise, Upto}
+use Rattle.safety.specs.Replicas.{number, Row, Node, recording, Message, In, raise, Upto}
 use Rattle.safety.specs.Replicas.Phase.{gathering, confirming}
 use Rattle.safety.specs.Replicas.Row.{under}
 use Rattle.safety.specs.Replicas.Message.{recorded-from}
@@ -31,7 +31,7 @@ module _ (carries : ℕ → ℕ → Bool) (first : View) (past : History) (w : W
   none = ⊎-elim (λ (a : w .at r .recorded ≡ None). a) (λ (a : ⊥). absurd a) (subst (λ (y : Row). (w .at r .recorded ≡ None) ⊎ Confirms y) e (i .nodes r .free normal))
 
   abbrev after : Node
-  after = node (w .at r .normal) (w .at r .top) (raise (w .at r .mark) (suc k)) (w .at r .component) (Some (recorded (suc k) (h .set .0) (h .stamp .0))) (under h (confirming more))
+  after = recording (w .at r) (w .at r .normal) (suc k) h (confirming more)
 
   abbrev sent : List Message
   sent = recorded-from r h (number (suc k)) ∷ []

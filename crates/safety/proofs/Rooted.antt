@@ -7,8 +7,7 @@ use native.Mathlib.Omega.{arith}
 use Rattle.quorum.specs.Members.{has}
 use Rattle.quorum.specs.Laws.{Meets}
 use Rattle.stores.specs.declared.view.View.{View}
-use Rattle.stores.specs.Views.{view}
-use Rattle.safety.specs.Replicas.{number, In}
+use Rattle.safety.specs.Replicas.{In}
 use Rattle.safety.specs.Runs.{World}
 use Rattle.safety.proofs.Fate.{Dead}
 use Rattle.safety.proofs.History.{History}

@@ -11,7 +11,7 @@ use Rattle.quorum.specs.Members.{has}
 use Rattle.stores.specs.declared.view.Head.{Head}
 use Rattle.stores.specs.declared.view.Recorded.{Recorded}
 use Rattle.stores.specs.declared.view.View.{View}
-use Rattle.stores.specs.Views.{view, recorded, head}
+use Rattle.stores.specs.Views.{view}
 use Rattle.safety.specs.Replicas.{number, Report, Phase, Row, with-row, leaving, In, Upto}
 use Rattle.safety.specs.Replicas.Phase.{taken, gathering, confirming, applying, entering, round}
 use Rattle.safety.specs.Replicas.Row.{idle, under}

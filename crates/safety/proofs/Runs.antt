@@ -6,13 +6,11 @@ use mathlib.Core.Logic.{_⊎_, _≢_, inl, inr, ⊎-elim}
 use Prim.Native.Nat.{ℕ, zero, suc, _≤_}
 use native.Mathlib.Omega.{arith}
 use Rattle.std.specs.declared.option.Option.the-variants.{Some}
-use Rattle.quorum.specs.Members.{has}
 use Rattle.quorum.specs.Laws.{Meets}
 use Rattle.stores.specs.declared.view.Head.{Head}
 use Rattle.stores.specs.declared.view.View.{View}
 use Rattle.stores.specs.Views.{view}
-use Rattle.safety.specs.Replicas.{number, Report, Message, In}
-use Rattle.safety.specs.Replicas.Phase.{round}
+use Rattle.safety.specs.Replicas.{Report, Message, In}
 use Rattle.safety.specs.Replicas.Message.{report-from}
 use Rattle.safety.specs.Moves.{settlement}
 use Rattle.safety.specs.Runs.{World, Step, Run, world-at, formed-at, settled-at}
@@ -21,8 +19,6 @@ use Rattle.safety.proofs.History.Event.{installs, forms}
 use Rattle.safety.proofs.Invariant.{Rooted, Invariant}
 use Rattle.safety.proofs.Lists.{in-split, Was, was-same, was-more, was-trans}
 use Rattle.safety.proofs.Marks.{none-some}
-use Rattle.safety.proofs.Worlds.{by}
-use Rattle.safety.specs.Runs.Call.{whole}
 use Rattle.safety.specs.Runs.Run.{none, call}
 use Rattle.safety.specs.Findings.{Forms}
 use Rattle.safety.proofs.Calls.{call-keeps, formed-in-call, installed-by-call, one-replica, settled-by-call}

@@ -10,8 +10,7 @@ use Rattle.quorum.specs.Laws.{Meets}
 use Rattle.stores.specs.declared.view.Head.{Head}
 use Rattle.stores.specs.declared.view.Number.{Number}
 use Rattle.stores.specs.declared.view.View.{View}
-use Rattle.stores.specs.Views.{view}
-use Rattle.safety.specs.Replicas.{number, Report, holding, content, In, raise, Upto}
+use Rattle.safety.specs.Replicas.{Report, holding, content, In, raise, Upto}
 use Rattle.safety.specs.Replicas.Phase.{round}
 use Rattle.safety.specs.Replicas.Row.{under}
 use Rattle.safety.specs.Rounds.{Low, Decides}

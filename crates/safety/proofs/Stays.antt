@@ -7,12 +7,11 @@ use Prim.Native.Nat.{ℕ, suc}
 use native.Mathlib.Omega.{arith}
 use Rattle.std.specs.declared.option.Option.{Option}
 use Rattle.std.specs.declared.option.Option.the-variants.{Some, None}
-use Rattle.quorum.specs.Members.{has}
 use Rattle.stores.specs.declared.view.Head.{Head}
 use Rattle.stores.specs.declared.view.Number.{Number}
 use Rattle.stores.specs.declared.view.View.{View}
-use Rattle.stores.specs.Views.{view, recorded}
-use Rattle.safety.specs.Replicas.{number, Report, Phase, Row, Node, Message, In}
+use Rattle.stores.specs.Views.{recorded}
+use Rattle.safety.specs.Replicas.{Report, Phase, Row, Node, Message, In}
 use Rattle.safety.specs.Replicas.Phase.{taken, gathering, confirming, applying, entering, round}
 use Rattle.safety.specs.Replicas.Row.{idle, under}
 use Rattle.safety.specs.Replicas.Message.{state-from, recorded-from, report-from}

@@ -6,12 +6,11 @@ use mathlib.Core.Logic.{_⊎_, inl, inr, ⊎-elim}
 use Prim.Native.Nat.{ℕ, _≤_}
 use Rattle.std.specs.declared.option.Option.{Option}
 use Rattle.std.specs.declared.option.Option.the-variants.{Some}
-use Rattle.quorum.specs.Members.{has}
 use Rattle.quorum.specs.Laws.{Meets}
 use Rattle.stores.specs.declared.view.Head.{Head}
 use Rattle.stores.specs.declared.view.View.{View}
-use Rattle.stores.specs.Views.{view, head}
-use Rattle.safety.specs.Replicas.{number, Report, Node, content, Message, In}
+use Rattle.stores.specs.Views.{view}
+use Rattle.safety.specs.Replicas.{Report, Node, content, Message, In}
 use Rattle.safety.specs.Replicas.Phase.{round}
 use Rattle.safety.specs.Replicas.Row.{under}
 use Rattle.safety.specs.Replicas.Message.{report-from}

@@ -10,7 +10,7 @@ use Rattle.quorum.specs.Members.{has}
 use Rattle.stores.specs.declared.view.Head.{Head}
 use Rattle.stores.specs.declared.view.Recorded.{Recorded}
 use Rattle.stores.specs.declared.view.View.{View}
-use Rattle.safety.specs.Replicas.{number, Report, Phase, Row, Node, node, with-row, leaving, taking-up, recording, holding, spare, content, Message, In, raise, Upto}
+use Rattle.safety.specs.Replicas.{number, Report, Phase, Node, node, with-row, leaving, taking-up, recording, holding, spare, content, Message, In, raise, Upto}
 use Rattle.safety.specs.Replicas.Phase.{taken, gathering, confirming, applying, entering, round}
 use Rattle.safety.specs.Replicas.Row.{idle, under}
 use Rattle.safety.specs.Replicas.Message.{state-from, recorded-from, report-from}
