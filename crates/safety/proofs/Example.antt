@@ -17,9 +17,9 @@ use Rattle.safety.specs.Replicas.{number, Report, Node, node, with-row, leavin
 use Rattle.safety.specs.Replicas.Phase.{confirming, round}
 use Rattle.safety.specs.Replicas.Row.{idle, under}
 use Rattle.safety.specs.Replicas.Message.{recorded-from, report-from}
-use Rattle.safety.specs.Moves.{Empty, Adds, settlement, Chain}
+use Rattle.safety.specs.Moves.{Empty, Adds, Settlement, settlement, Chain}
 use Rattle.safety.specs.Rounds.{Clear, Low, Decides}
-use Rattle.safety.specs.Runs.{World, Turned, Step, Run, world-at, Started}
+use Rattle.safety.specs.Runs.{World, Step, done, Call, Run, world-at, Started}
 use Rattle.safety.proofs.Lists.{in-split}
 use Rattle.safety.proofs.Marks.{none-some, false-true, some-inj, view-inj}
 use Rattle.safety.proofs.Worlds.{here, by}
@@ -32,8 +32,7 @@ use Rattle.safety.specs.Moves.Move.{take-up, gather, begin-round, hear-confirm
 use Rattle.safety.specs.Moves.Finish.{member-installs, settle}
 use Rattle.safety.specs.Moves.Chain.{rest, go, end}
 use Rattle.safety.specs.Rounds.Decides.{by-clear}
-use Rattle.safety.specs.Runs.{done}
-use Rattle.safety.specs.Runs.Call.{whole}
+use Rattle.safety.specs.Runs.Ended.{whole}
 use Rattle.safety.specs.Runs.Run.{none, call}
 
 abbrev rule : ℕ → ℕ → Bool
@@ -154,12 +153,6 @@ others-1 x y y′ (suc zero) d = absurd (d refl)
 others-1 x y y′ (suc (suc zero)) d = refl
 others-1 x y y′ (suc (suc (suc q))) d = refl
 
-turned-0 : (x x′ y : Node) (post ms : List Message) → Turned 0 (world x y post) x′ ms (world x′ y (ms ++ post))
-turned-0 x x′ y post ms = record { here = refl; others = others-0 x x′ y; posted = λ m u. in-split m ms post u }
-
-turned-1 : (x y y′ : Node) (post ms : List Message) → Turned 1 (world x y post) y′ ms (world x y′ (ms ++ post))
-turned-1 x y y′ post ms = record { here = refl; others = others-1 x y y′; posted = λ m u. in-split m ms post u }
-
 alone-0 : (q : ℕ) (m : Report) → from-0 q ≡ Some m → (q ≡ 0) × (m ≡ content stopped-0)
 alone-0 zero m e = (refl, sym (some-inj e))
 alone-0 (suc q) m e = absurd (none-some e)
@@ -225,17 +218,24 @@ calls =
     ∷ done (report-1 ∷ []) (Some (settlement h₂ (view 8 3))) (world asking-0 settled-1 (report-1 ∷ report-0 ∷ post₂))
     ∷ []
 
+-- a whole call of 0 or of 1
+calls-0 : (x x′ y : Node) (post : List Message) {ms : List Message} {s : Option Settlement} → Chain rule post 0 x ms s x′ → Call rule (world x y post) (done ms s (world x′ y (ms ++ post)))
+calls-0 x x′ y post {ms} c = record { at = 0; becomes = x′; chain = c; ended = whole (record { here = refl; others = others-0 x x′ y; posted = λ m u. in-split m ms post u }) }
+
+calls-1 : (x y y′ : Node) (post : List Message) {ms : List Message} {s : Option Settlement} → Chain rule post 1 y ms s y′ → Call rule (world x y post) (done ms s (world x y′ (ms ++ post)))
+calls-1 x y y′ post {ms} c = record { at = 1; becomes = y′; chain = c; ended = whole (record { here = refl; others = others-1 x y y′; posted = λ m u. in-split m ms post u }) }
+
 run : Run rule start calls
 run =
-    call (whole 0 chain-1 (turned-0 member recorded-0 member [] _))
-    (call (whole 1 (chain-2 _) (turned-1 recorded-0 member recorded-1 _ _))
-    (call (whole 0 chain-3 (turned-0 recorded-0 installed-0 recorded-1 post₂ []))
-    (call (whole 0 (go close rest) (turned-0 installed-0 stopped-0 recorded-1 post₂ []))
-    (call (whole 1 (go close rest) (turned-1 stopped-0 recorded-1 stopped-1 post₂ []))
-    (call (whole 0 rest (turned-0 stopped-0 stopped-0 stopped-1 post₂ []))
-    (call (whole 1 rest (turned-1 stopped-0 stopped-1 stopped-1 post₂ []))
-    (call (whole 0 chain-8 (turned-0 stopped-0 asking-0 stopped-1 post₂ _))
-    (call (whole 1 chain-9 (turned-1 asking-0 stopped-1 settled-1 _ _)) none))))))))
+    call (calls-0 member recorded-0 member [] chain-1)
+    (call (calls-1 recorded-0 member recorded-1 _ (chain-2 _))
+    (call (calls-0 recorded-0 installed-0 recorded-1 post₂ chain-3)
+    (call (calls-0 installed-0 stopped-0 recorded-1 post₂ (go close rest))
+    (call (calls-1 stopped-0 recorded-1 stopped-1 post₂ (go close rest))
+    (call (calls-0 stopped-0 stopped-0 stopped-1 post₂ rest)
+    (call (calls-1 stopped-0 stopped-1 stopped-1 post₂ rest)
+    (call (calls-0 stopped-0 asking-0 stopped-1 post₂ chain-8)
+    (call (calls-1 asking-0 stopped-1 settled-1 (report-0 ∷ post₂) chain-9) none))))))))
 
 started : Started (view 7 7) start
 started = record {

@@ -11,8 +11,8 @@ use Rattle.safety.specs.Moves.{Move, Settlement, Finish, Chain}
 use Rattle.safety.specs.Moves.Move.{take-up, gather, apply, begin-round, tell-state, answer, hear-gathering, hear-confirming, hear-state, hear-entering, hear-report, member-records, newcomer-records, give-up, leave, close, wait-again}
 use Rattle.safety.specs.Moves.Finish.{member-installs, newcomer-installs, settle, settle-outside, become-spare}
 use Rattle.safety.specs.Moves.Chain.{rest, go, end}
-use Rattle.safety.specs.Runs.{World, Step, Call}
-use Rattle.safety.specs.Runs.Call.{whole, cut-new, cut-old}
+use Rattle.safety.specs.Runs.{World, Step, Ended, Call}
+use Rattle.safety.specs.Runs.Ended.{whole, cut-new, cut-old}
 
 pub data Event : Type 0 where
   -- the replica q, its component view numbered k, recorded the next as a member under the head of stamp s and set X
@@ -76,7 +76,10 @@ module _ (carries : ℕ → ℕ → Bool) where
   in-chain (end f) = in-finish f
 
   -- what happens in a call: nothing, if it was cut off and left the old page
+  abbrev pub in-ended : {r : ℕ} {w v : World} {x : Node} {ms : List Message} → History → Ended r w x ms v → History
+  in-ended es (whole t) = es
+  in-ended es (cut-new t) = es
+  in-ended es (cut-old t) = []
+
   abbrev pub in-call : {w : World} {s : Step} → Call carries w s → History
-  in-call (whole r c t) = in-chain c
-  in-call (cut-new r c t) = in-chain c
-  in-call (cut-old r c t) = []
+  in-call c = in-ended (in-chain (c .chain)) (c .ended)

@@ -24,7 +24,11 @@ use Rattle.safety.proofs.Quiet.{silent, quiet, at-row, at-free}
 use Rattle.safety.proofs.Stays.{node-stays}
 
 module _ (carries : ℕ → ℕ → Bool) (first : View) (past : History) (w : World) (r : ℕ) (i : Invariant carries first past w) where
-  pub keep-tell-state : (h : Head) (p : Phase) (v : View) → w .at r .row ≡ under h p → w .at r .component ≡ Some v → Invariant carries first past (put w r (w .at r) (state-from r h v ∷ []))
+  -- the invariant holds where r has become x and posted ms
+  abbrev Keeps : Node → List Message → Type 0
+  Keeps x ms = Invariant carries first past (put w r x ms)
+
+  pub keep-tell-state : (h : Head) (p : Phase) (v : View) → w .at r .row ≡ under h p → w .at r .component ≡ Some v → Keeps (w .at r) (state-from r h v ∷ [])
   keep-tell-state h p v e f =
       let ms : List Message = state-from r h v ∷ [] in
       let u : World = put w r (w .at r) ms in
@@ -32,7 +36,7 @@ module _ (carries : ℕ → ℕ → Bool) (first : View) (past : History) (w : W
       (node-stays carries past w past u (silent carries first past w r i (w .at r) ms (λ s X a. a)) r (λ k s X b. b) (w .at r) (i .nodes r))
       (λ m. elim [ inl b ↦ subst (Message-ok carries past u) (sym b) (i .nodes r .known (v .number .0) (v .set .0) f) | inr b ↦ absurd b ])
 
-  pub keep-take-up : (h : Head) → w .at r .row ≡ idle → has (h .set .0) r ≡ true → w .at r .top .0 < h .stamp .0 → Invariant carries first past (put w r (taking-up (w .at r) h) [])
+  pub keep-take-up : (h : Head) → w .at r .row ≡ idle → has (h .set .0) r ≡ true → w .at r .top .0 < h .stamp .0 → Keeps (taking-up (w .at r) h) []
   keep-take-up h shut mine lt =
       let x : Node = taking-up (w .at r) h in
       let v : World = put w r x [] in
@@ -53,7 +57,7 @@ module _ (carries : ℕ → ℕ → Bool) (first : View) (past : History) (w : W
       })
       (λ m e. absurd e)
 
-  pub keep-wait-again : w .at r .component ≡ None → Invariant carries first past (put w r (node false (w .at r .top) (w .at r .mark) (w .at r .component) None idle) [])
+  pub keep-wait-again : w .at r .component ≡ None → Keeps (node false (w .at r .top) (w .at r .mark) (w .at r .component) None idle) []
   keep-wait-again c =
       let x : Node = node false (w .at r .top) (w .at r .mark) (w .at r .component) None idle in
       let may : (t Y : ℕ) → May x t Y → May (w .at r) t Y = λ t Y. elim [ inl l ↦ inl l | inr e ↦ absurd (none-some e) ] in
@@ -74,7 +78,7 @@ module _ (carries : ℕ → ℕ → Bool) (first : View) (past : History) (w : W
       (λ m e. absurd e)
 
   pub keep-newcomer-records : (h : Head) (heard : ℕ) (v : View) → w .at r .row ≡ under h (applying (Some v)) → w .at r .component ≡ None → Empty heard
-      → Invariant carries first past (put w r (recording (w .at r) false (suc (v .number .0)) h (entering v heard)) [])
+      → Keeps (recording (w .at r) false (suc (v .number .0)) h (entering v heard)) []
   keep-newcomer-records h heard v e none nobody =
       let x : Node = recording (w .at r) false (suc (v .number .0)) h (entering v heard) in
       let may : (t Y : ℕ) → May x t Y → May (w .at r) t Y = λ t Y. elim [ inl l ↦ inl l | inr u ↦ inr (ap head-of e ∙ u) ] in

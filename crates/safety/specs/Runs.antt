@@ -32,13 +32,19 @@ pub record Step : Type 0 where
 abbrev pub done : List Message → Option Settlement → World → Step
 done formed settled world = record { formed = formed; settled = settled; world = world }
 
+-- How a call of r that made it x and formed ms turned w into v: whole; or cut off, with the new page or with the old. Cut off, it posted nothing and left the row empty.
+pub data Ended (r : ℕ) (w : World) (x : Node) (ms : List Message) (v : World) : Type 0 where
+  whole : Turned r w x ms v → Ended r w x ms v
+  cut-new : Turned r w (leaving x idle) [] v → Ended r w x ms v
+  cut-old : Turned r w (leaving (w .at r) idle) [] v → Ended r w x ms v
+
 module _ (carries : ℕ → ℕ → Bool) where
-  -- A call is a chain of moves at one replica, whole or cut off. Cut off, it posts nothing and leaves its row empty, with the new page or the old.
-  -- A call that is refused is the chain of no moves.
-  pub data Call (w : World) : Step → Type 0 where
-    whole : {v : World} {x : Node} {ms : List Message} {s : Option Settlement} (r : ℕ) → Chain carries (w .post) r (w .at r) ms s x → Turned r w x ms v → Call w (done ms s v)
-    cut-new : {v : World} {x : Node} {ms : List Message} {s : Option Settlement} (r : ℕ) → Chain carries (w .post) r (w .at r) ms s x → Turned r w (leaving x idle) [] v → Call w (done ms s v)
-    cut-old : {v : World} {x : Node} {ms : List Message} {s : Option Settlement} (r : ℕ) → Chain carries (w .post) r (w .at r) ms s x → Turned r w (leaving (w .at r) idle) [] v → Call w (done ms s v)
+  -- A call is a chain of moves at one replica, whole or cut off. One that is refused is the chain of no moves.
+  pub record Call (w : World) (s : Step) : Type 0 where
+    pub at : ℕ
+    pub becomes : Node
+    pub chain : Chain carries (w .post) at (w .at at) (s .formed) (s .settled) becomes
+    pub ended : Ended at w becomes (s .formed) (s .world)
 
   pub data Run : World → List Step → Type 0 where
     none : {w : World} → Run w []
