@@ -33,7 +33,8 @@ module _ (carries : ℕ → ℕ → Bool) (first : View) (meets : Meets carries)
   -- what had happened at a time before the first report under h was formed
   module _ (then : History) (was : Was then past) (ro : Rooted carries first then) (early : In (forms h) then → ⊥) where
     -- whatever was recorded by then was recorded before each report
-    before-report : (q : ℕ) (m : Report) (said : reports q ≡ Some m) (k s Y : ℕ) → In (records q k s Y) then → In (records q k s Y) (promise carries first meets past w r i h reports e q m said .before)
+    before-report : (q : ℕ) (m : Report) (said : reports q ≡ Some m) (k s Y : ℕ) → In (records q k s Y) then
+        → In (records q k s Y) (promise carries first meets past w r i h reports e q m said .before)
     before-report q m said k s Y a =
         let b = promise carries first meets past w r i h reports e q m said in
         ⊎-elim

@@ -29,7 +29,9 @@ use Rattle.safety.proofs.Tells.{formed-in-chain, installed-by-chain, settled-b
 
 module _ (carries : ℕ → ℕ → Bool) (first : View) (meets : Meets carries) where
   -- messages are lost, and the row of r may be emptied
-  lost-keeps : (past : History) (r : ℕ) (u v : World) → ((q : ℕ) → q ≢ r → v .at q ≡ u .at q) → (v .at r ≡ u .at r) ⊎ (v .at r ≡ leaving (u .at r) idle) → ((m : Message) → In m (v .post) → In m (u .post)) → Invariant carries first past u → Invariant carries first past v
+  lost-keeps : (past : History) (r : ℕ) (u v : World) → ((q : ℕ) → q ≢ r → v .at q ≡ u .at q)
+      → (v .at r ≡ u .at r) ⊎ (v .at r ≡ leaving (u .at r) idle) → ((m : Message) → In m (v .post) → In m (u .post)) → Invariant carries first past u
+      → Invariant carries first past v
   lost-keeps past r u v same at-r mailed i = record {
     nodes = λ q. ⊎-elim (λ (z : q ≡ r). subst (λ (j : ℕ). Node-ok carries past v j (v .at j)) (sym z) mine) (λ (d : q ≢ r). subst (Node-ok carries past v q) (sym (same q d)) (stays q)) (cases-eq q r);
     mail = λ m a. message-stays carries past u past v since m (i .mail m (mailed m a));
@@ -101,15 +103,18 @@ module _ (carries : ℕ → ℕ → Bool) (first : View) (meets : Meets carries)
   others-stay (cut-new t) q d = t .others q d
   others-stay (cut-old t) q d = t .others q d
 
-  pub call-keeps : (past : History) {w : World} {s : Step} → Invariant carries first past w → (c : Call carries w s) → Invariant carries first (in-call carries c ++ past) (s .world)
+  pub call-keeps : (past : History) {w : World} {s : Step} → Invariant carries first past w → (c : Call carries w s)
+      → Invariant carries first (in-call carries c ++ past) (s .world)
   call-keeps past i c = ended-keeps (c .chain) past i (c .ended)
 
   -- a report that the history has was formed in the call
-  pub formed-in-call : {w : World} {s : Step} (c : Call carries w s) (h : Head) → In (forms h) (in-call carries c) → (q : ℕ) × (m : Report) × In (report-from q h m) (s .formed)
+  pub formed-in-call : {w : World} {s : Step} (c : Call carries w s) (h : Head) → In (forms h) (in-call carries c)
+      → (q : ℕ) × (m : Report) × In (report-from q h m) (s .formed)
   formed-in-call c h u = formed-in-ended (c .chain) (c .ended) h u
 
   -- a view installed in a call is held after it
-  pub installed-by-call : {w : World} {s : Step} (c : Call carries w s) (n X : ℕ) → In (installs n X) (in-call carries c) → (q : ℕ) × (s .world .at q .component ≡ Some (view n X))
+  pub installed-by-call : {w : World} {s : Step} (c : Call carries w s) (n X : ℕ) → In (installs n X) (in-call carries c)
+      → (q : ℕ) × (s .world .at q .component ≡ Some (view n X))
   installed-by-call c n X u = (c .at, installed-by-ended (c .chain) (c .ended) n X u)
 
   -- a call changes one replica
@@ -121,7 +126,8 @@ module _ (carries : ℕ → ℕ → Bool) (first : View) (meets : Meets carries)
     pub reported : In (forms h) past ⊎ ((q : ℕ) × (m : Report) × In (report-from q h m) formed)
     pub least : (then : History) → Was then past → Rooted carries first then → (In (forms h) then → ⊥) → (m Y : ℕ) → In (installs m Y) then → m ≤ n
 
-  pub settled-by-call : (past : History) {w : World} {s : Step} → Invariant carries first past w → Call carries w s → (h : Head) (v : View) → s .settled ≡ Some (settlement h v) → Settled-call past (s .formed) h (v .number .0)
+  pub settled-by-call : (past : History) {w : World} {s : Step} → Invariant carries first past w → Call carries w s → (h : Head) (v : View)
+      → s .settled ≡ Some (settlement h v) → Settled-call past (s .formed) h (v .number .0)
   settled-by-call past {w = w} i c h v u =
       let a = settled-by-chain carries first meets (w .post) (c .at) past w i (λ m b. b) refl (c .chain) h v u in
       record {

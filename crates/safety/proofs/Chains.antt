@@ -28,7 +28,8 @@ use Rattle.safety.proofs.Settles.{keep-settle}
 module _ (carries : ℕ → ℕ → Bool) (first : View) (meets : Meets carries) where
   module _ (past : History) (w : World) (r : ℕ) (i : Invariant carries first past w) where
     -- each move keeps the invariant, at the world's post or one with less in it
-    move-keeps : (post : List Message) → ((m : Message) → In m post → In m (w .post)) → (y : Node) (ms : List Message) (m : Move post r (w .at r) y ms) → Invariant carries first (in-move m ++ past) (put w r y ms)
+    move-keeps : (post : List Message) → ((m : Message) → In m post → In m (w .post))
+        → (y : Node) (ms : List Message) (m : Move post r (w .at r) y ms) → Invariant carries first (in-move m ++ past) (put w r y ms)
     move-keeps post sub y ms (take-up h a b c) = keep-take-up carries first past w r i h a b c
     move-keeps post sub y ms (gather h heard a b) = keep-gather carries first past w r i h heard a b
     move-keeps post sub y ms (apply h a) = keep-apply carries first past w r i h a
@@ -55,7 +56,8 @@ module _ (carries : ℕ → ℕ → Bool) (first : View) (meets : Meets carries)
     finish-keeps y s become-spare = keep-spare carries first past w r i [] (λ q k t Y u. u) (λ j Y u. u)
 
     -- the same, of a replica that is known to be x
-    pub stepped : (post : List Message) → ((m : Message) → In m post → In m (w .post)) → {x y : Node} {ms : List Message} → w .at r ≡ x → (m : Move post r x y ms) → Invariant carries first (in-move m ++ past) (put w r y ms)
+    pub stepped : (post : List Message) → ((m : Message) → In m post → In m (w .post)) → {x y : Node} {ms : List Message} → w .at r ≡ x
+        → (m : Move post r x y ms) → Invariant carries first (in-move m ++ past) (put w r y ms)
     stepped post sub {x} {y} {ms} e m = subst (λ (z : Node). (y : Node) (ms : List Message) (m : Move post r z y ms) → Invariant carries first (in-move m ++ past) (put w r y ms)) e (move-keeps post sub) y ms m
 
     finished : {x y : Node} {s : Option Settlement} → w .at r ≡ x → (f : Finish carries r x y s) → Invariant carries first (in-finish carries f ++ past) (put w r y [])
@@ -69,7 +71,9 @@ module _ (carries : ℕ → ℕ → Bool) (first : View) (meets : Meets carries)
     pub others : (q : ℕ) → q ≢ r → world .at q ≡ w .at q
     pub mail : (m : Message) → In m ms ⊎ In m (w .post) → In m (world .post)
 
-  pub chain-keeps : (post : List Message) (r : ℕ) (past : History) (w : World) → Invariant carries first past w → ((m : Message) → In m post → In m (w .post)) → {x z : Node} {ms : List Message} {s : Option Settlement} → w .at r ≡ x → (c : Chain carries post r x ms s z) → Reached r past w z ms (in-chain carries c)
+  pub chain-keeps : (post : List Message) (r : ℕ) (past : History) (w : World) → Invariant carries first past w
+      → ((m : Message) → In m post → In m (w .post)) → {x z : Node} {ms : List Message} {s : Option Settlement} → w .at r ≡ x
+      → (c : Chain carries post r x ms s z) → Reached r past w z ms (in-chain carries c)
   chain-keeps post r past w i sub e rest = record { world = w; holds = i; mine = e; others = λ q d. refl; mail = λ m. elim [ inl a ↦ absurd a | inr a ↦ a ] }
   chain-keeps post r past w i sub e (go {y = y} {ms = ms} {ns = ns} m c) =
       let v : World = put w r y ms in

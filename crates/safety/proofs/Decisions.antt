@@ -50,7 +50,8 @@ module _ (carries : ℕ → ℕ → Bool) (first : View) (meets : Meets carries)
     not-clear v s Y a (inr c) = absurd (upto-not (m .mark) (v .number .0) c (promise .marked (v .number .0) s Y a))
 
     -- where all members have reported, one that had recorded holds that, or it is dead
-    pub holder : (v : View) (s Y : ℕ) → In (records q (v .number .0) s Y) (promise .before) → Level v m ⊎ Upto (m .mark) (v .number .0) → Holds reports q v (recorded (suc (v .number .0)) Y s) ⊎ Dead-after v s Y
+    pub holder : (v : View) (s Y : ℕ) → In (records q (v .number .0) s Y) (promise .before) → Level v m ⊎ Upto (m .mark) (v .number .0)
+        → Holds reports q v (recorded (suc (v .number .0)) Y s) ⊎ Dead-after v s Y
     holder v s Y a (inl c) =
         ⊎-elim (λ (b : m .recorded ≡ Some (recorded (suc (v .number .0)) Y s)). inl (m, said, c, b)) (λ (d : Dead-after v s Y). inr d) (promise .chose (v .number .0) (v .set .0) s Y c a)
     holder v s Y a (inr c) = absurd (upto-not (m .mark) (v .number .0) c (promise .marked (v .number .0) s Y a))

@@ -219,10 +219,12 @@ calls =
     ∷ []
 
 -- a whole call of 0 or of 1
-calls-0 : (x x′ y : Node) (post : List Message) {ms : List Message} {s : Option Settlement} → Chain rule post 0 x ms s x′ → Call rule (world x y post) (done ms s (world x′ y (ms ++ post)))
+calls-0 : (x x′ y : Node) (post : List Message) {ms : List Message} {s : Option Settlement} → Chain rule post 0 x ms s x′
+    → Call rule (world x y post) (done ms s (world x′ y (ms ++ post)))
 calls-0 x x′ y post {ms} c = record { at = 0; becomes = x′; chain = c; ended = whole (record { here = refl; others = others-0 x x′ y; posted = λ m u. in-split m ms post u }) }
 
-calls-1 : (x y y′ : Node) (post : List Message) {ms : List Message} {s : Option Settlement} → Chain rule post 1 y ms s y′ → Call rule (world x y post) (done ms s (world x y′ (ms ++ post)))
+calls-1 : (x y y′ : Node) (post : List Message) {ms : List Message} {s : Option Settlement} → Chain rule post 1 y ms s y′
+    → Call rule (world x y post) (done ms s (world x y′ (ms ++ post)))
 calls-1 x y y′ post {ms} c = record { at = 1; becomes = y′; chain = c; ended = whole (record { here = refl; others = others-1 x y y′; posted = λ m u. in-split m ms post u }) }
 
 run : Run rule start calls
@@ -258,7 +260,8 @@ started = record {
     mark-of : (v : View) → _≡_ {A = Option View} (Some (view 7 7)) (Some v) → _≡_ {A = Option Number} (Some (number 7)) (Some (v .number))
     mark-of v e = ap (λ (y : View). Some (y .number)) (some-inj e)
 
-    marked : (q : ℕ) (v : View) → place member member q .component ≡ Some v → (place member member q .mark ≡ Some (v .number)) ⊎ (place member member q .mark ≡ Some (number (suc (v .number .0))))
+    marked : (q : ℕ) (v : View) → place member member q .component ≡ Some v
+        → (place member member q .mark ≡ Some (v .number)) ⊎ (place member member q .mark ≡ Some (number (suc (v .number .0))))
     marked zero v e = inl (mark-of v e)
     marked (suc zero) v e = inl (mark-of v e)
     marked (suc (suc zero)) v e = inl (mark-of v e)

@@ -71,7 +71,8 @@ module _ (carries : ℕ → ℕ → Bool) (first : View) where
         (λ m u. absurd u) ro (rivals-stay carries past w (es ++ past) (put w r after []) then own (i .rivals))
 
   -- r comes to hold no view
-  pub keep-spare : (past : History) (w : World) (r : ℕ) → Invariant carries first past w → (es : History) → ((q k s Y : ℕ) → In (records q k s Y) es → ⊥) → ((j Y : ℕ) → In (installs j Y) es → ⊥)
+  pub keep-spare : (past : History) (w : World) (r : ℕ) → Invariant carries first past w → (es : History)
+      → ((q k s Y : ℕ) → In (records q k s Y) es → ⊥) → ((j Y : ℕ) → In (installs j Y) es → ⊥)
       → Invariant carries first (es ++ past) (put w r (spare (w .at r)) [])
   keep-spare past w r i es quiet still =
       let x : Node = spare (w .at r) in
@@ -98,7 +99,8 @@ module _ (carries : ℕ → ℕ → Bool) (first : View) where
 
   -- the recorded view becomes the component view
   module _ (meets : Meets carries) (past : History) (w : World) (r : ℕ) (i : Invariant carries first past w) where
-    from-recorded : (n X : ℕ) → w .at r .mark ≡ Some (number n) → Backed carries past n X → Invariant carries first (installs n X ∷ past) (put w r (holding (w .at r) (w .at r .mark) (view n X)) [])
+    from-recorded : (n X : ℕ) → w .at r .mark ≡ Some (number n) → Backed carries past n X
+        → Invariant carries first (installs n X ∷ past) (put w r (holding (w .at r) (w .at r .mark) (view n X)) [])
     from-recorded n X m b =
         let quiet : (q k s Y : ℕ) → In (records q k s Y) (installs n X ∷ []) → ⊥ = λ q k s Y. elim [ inl u ↦ records-installs u | inr u ↦ u ] in
         let fate : (s Y : ℕ) → In (records r n s Y) past → Dead carries past w n X s Y = λ s Y u. let z = i .nodes r .marked n s Y u in absurd (omega (arith, ap (λ (y : Number). y .0) (some-inj (sym m ∙ z .1)), z .2)) in
@@ -107,7 +109,8 @@ module _ (carries : ℕ → ℕ → Bool) (first : View) where
         (then past w r i (w .at r .mark) n X (installs n X ∷ []) quiet (inl refl) (inl m) (λ k u. u) fate) (i .rooted) (i .rivals) n X b
         (λ j Y. elim [ inl u ↦ inr (installs-inj u) | inr u ↦ inl u ]))
 
-    pub keep-member-installs : (h : Head) (heard k V part : ℕ) (d : Recorded) → w .at r .row ≡ under h (confirming heard) → w .at r .component ≡ Some (view k V) → w .at r .recorded ≡ Some d → Part part heard → carries part V ≡ true
+    pub keep-member-installs : (h : Head) (heard k V part : ℕ) (d : Recorded) → w .at r .row ≡ under h (confirming heard)
+        → w .at r .component ≡ Some (view k V) → w .at r .recorded ≡ Some d → Part part heard → carries part V ≡ true
         → Invariant carries first (installs (d .view .number .0) (d .view .set .0) ∷ past) (put w r (holding (w .at r) (w .at r .mark) (d .view)) [])
     keep-member-installs h heard k V part d e c s of car =
         let a = i .nodes r in
@@ -125,7 +128,8 @@ module _ (carries : ℕ → ℕ → Bool) (first : View) where
           each = λ q l p v. subst (λ (y : ℕ). In (records q k (h .stamp .0) y) past) (sym sets) (b .2 .all-heard k V c q (of q p));
         })
 
-    pub keep-newcomer-installs : (h : Head) (v : View) (heard part : ℕ) (d : Recorded) → w .at r .row ≡ under h (entering v heard) → w .at r .recorded ≡ Some d → Part part heard → carries part (v .set .0) ≡ true
+    pub keep-newcomer-installs : (h : Head) (v : View) (heard part : ℕ) (d : Recorded) → w .at r .row ≡ under h (entering v heard)
+        → w .at r .recorded ≡ Some d → Part part heard → carries part (v .set .0) ≡ true
         → Invariant carries first (installs (d .view .number .0) (d .view .set .0) ∷ past) (put w r (holding (w .at r) (w .at r .mark) (d .view)) [])
     keep-newcomer-installs h v heard part d e s of car =
         let a = i .nodes r in

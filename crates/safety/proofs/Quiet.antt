@@ -24,7 +24,8 @@ module _ (carries : ℕ → ℕ → Bool) (first : View) where
       pub silent : Later past w past (put w r x ms)
       silent = later carries first past w r x ms [] may (λ q k s X e. absurd e)
 
-      pub quiet : Node-ok carries past (put w r x ms) r x → ((m : Message) → In m ms → Message-ok carries past (put w r x ms) m) → Invariant carries first past (put w r x ms)
+      pub quiet : Node-ok carries past (put w r x ms) r x → ((m : Message) → In m ms → Message-ok carries past (put w r x ms) m)
+          → Invariant carries first past (put w r x ms)
       quiet ok sent =
           kept carries first past w r x ms [] i silent (λ q k s X e. absurd e) ok sent (i .rooted)
           (rivals-stay carries past w past (put w r x ms) silent (λ q k s X e. e) (i .rivals))
@@ -43,7 +44,9 @@ module _ (carries : ℕ → ℕ → Bool) (first : View) where
     row-may b row f s X (inl l) = inl l
     row-may b row f s X (inr e) = inr (f (head s X) e)
 
-    pub row-move : (b : Bool) (row : Row) → ((h : Head) → head-of row ≡ Some h → head-of (w .at r .row) ≡ Some h) → (b ≡ true → (w .at r .recorded ≡ None) ⊎ Confirms row) → Row-ok carries past w r (rowed b row) row → Invariant carries first past (put w r (rowed b row) [])
+    pub row-move : (b : Bool) (row : Row) → ((h : Head) → head-of row ≡ Some h → head-of (w .at r .row) ≡ Some h)
+        → (b ≡ true → (w .at r .recorded ≡ None) ⊎ Confirms row) → Row-ok carries past w r (rowed b row) row
+        → Invariant carries first past (put w r (rowed b row) [])
     row-move b row f free ok =
         let x : Node = rowed b row in
         let v : World = put w r x [] in

@@ -57,21 +57,24 @@ module _ (carries : ℕ → ℕ → Bool) (first : View) (past : History) (w : W
           both = λ k V n X s u f. let c = a .both k V n X s u f in (c .0, inr (c .1));
         }
 
-    reported : Node-ok carries (forms h ∷ past) (put w r x ms) r x → ((m : Message) → In m ms → m ≡ report-from r h (content (w .at r))) → Invariant carries first (forms h ∷ past) (put w r x ms)
+    reported : Node-ok carries (forms h ∷ past) (put w r x ms) r x → ((m : Message) → In m ms → m ≡ report-from r h (content (w .at r)))
+        → Invariant carries first (forms h ∷ past) (put w r x ms)
     reported ok sent =
         kept carries first past w r x ms (forms h ∷ []) i told (λ q k s X. elim [ inl u ↦ absurd (records-forms u) | inr u ↦ absurd u ]) ok
         (λ m u. subst (Message-ok carries (forms h ∷ past) (put w r x ms)) (sym (sent m u)) own-promise)
         (rooted-stays carries past w (forms h ∷ past) (put w r x ms) told first no-install (i .rooted))
         (rivals-stay carries past w (forms h ∷ past) (put w r x ms) told no-record (i .rivals))
 
-  pub keep-answer : (h : Head) (p : Phase) → w .at r .row ≡ under h p → Invariant carries first (forms h ∷ past) (put w r (w .at r) (report-from r h (content (w .at r)) ∷ []))
+  pub keep-answer : (h : Head) (p : Phase) → w .at r .row ≡ under h p
+      → Invariant carries first (forms h ∷ past) (put w r (w .at r) (report-from r h (content (w .at r)) ∷ []))
   keep-answer h p e =
       let ms : List Message = report-from r h (content (w .at r)) ∷ [] in
       reported h p e (w .at r) ms (λ s X a. a)
       (node-stays carries past w (forms h ∷ past) (put w r (w .at r) ms) (told h p e (w .at r) ms (λ s X a. a)) r (no-record h p e (w .at r) ms (λ s X a. a) r) (w .at r) (i .nodes r))
       (λ m. elim [ inl u ↦ u | inr u ↦ absurd u ])
 
-  pub keep-begin-round : (h : Head) (reports : ℕ → Option Report) → w .at r .row ≡ under h taken → reports r ≡ Some (content (w .at r)) → ((q : ℕ) (m : Report) → reports q ≡ Some m → (q ≡ r) × (m ≡ content (w .at r)))
+  pub keep-begin-round : (h : Head) (reports : ℕ → Option Report) → w .at r .row ≡ under h taken → reports r ≡ Some (content (w .at r))
+      → ((q : ℕ) (m : Report) → reports q ≡ Some m → (q ≡ r) × (m ≡ content (w .at r)))
       → Invariant carries first (forms h ∷ past) (put w r (with-row (w .at r) (under h (round reports))) (report-from r h (content (w .at r)) ∷ []))
   keep-begin-round h reports e own alone =
       let ms : List Message = report-from r h (content (w .at r)) ∷ [] in

@@ -52,7 +52,8 @@ module _ (carries : ℕ → ℕ → Bool) (first : View) where
             (ri (m .0) (b .num) (b .stamp) X (d .stamp) Y (b .each (m .0) (m .1) (m .2) (m .4)) (each (m .0) (m .1) (m .3) (m .4)))
 
     -- a view that is backed may be installed
-    pub rooted-new : (past : History) (w : World) (past′ : History) (w′ : World) → Later past w past′ w′ → Rooted carries first past → Rivals carries past w → (n X : ℕ) → Backed carries past n X
+    pub rooted-new : (past : History) (w : World) (past′ : History) (w′ : World) → Later past w past′ w′ → Rooted carries first past
+        → Rivals carries past w → (n X : ℕ) → Backed carries past n X
         → ((j Y : ℕ) → In (installs j Y) past′ → In (installs j Y) past ⊎ ((j ≡ n) × (Y ≡ X))) → Rooted carries first past′
     rooted-new past w past′ w′ nx ro ri n X b new = record {
       single = λ j Y Z e f.

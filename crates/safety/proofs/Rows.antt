@@ -31,7 +31,8 @@ module _ (carries : ℕ → ℕ → Bool) (first : View) (past : History) (w : W
   Keeps x ms = Invariant carries first past (put w r x ms)
 
   -- the phase changes, and the mode stays
-  phase-move : (h : Head) (p p′ : Phase) → w .at r .row ≡ under h p → (Confirms (under h p) → Confirms (under h p′)) → Phase-ok carries past w r (with-row (w .at r) (under h p′)) h p′
+  phase-move : (h : Head) (p p′ : Phase) → w .at r .row ≡ under h p → (Confirms (under h p) → Confirms (under h p′))
+      → Phase-ok carries past w r (with-row (w .at r) (under h p′)) h p′
       → Keeps (with-row (w .at r) (under h p′)) []
   phase-move h p p′ e free ok =
       let a = at-row carries first past w r i (under h p) e in
@@ -66,7 +67,8 @@ module _ (carries : ℕ → ℕ → Bool) (first : View) (past : History) (w : W
   keep-apply h e = phase-move h taken (applying None) e (λ z. z) tt
 
   -- whom a member hears has recorded under its head, with its component view's number
-  heard-more : (h : Head) (heard more q k V : ℕ) → w .at r .component ≡ Some (view k V) → In (recorded-from q h (number (suc k))) (w .post) → Adds heard q more → Gathering-ok past (w .at r) h heard → Gathering-ok past (w .at r) h more
+  heard-more : (h : Head) (heard more q k V : ℕ) → w .at r .component ≡ Some (view k V) → In (recorded-from q h (number (suc k))) (w .post)
+      → Adds heard q more → Gathering-ok past (w .at r) h heard → Gathering-ok past (w .at r) h more
   heard-more h heard more q k V c m add old j W f p u =
       let b = i .mail _ m in
       ⊎-elim (λ (g : has heard p ≡ true). old j W f p g)
@@ -74,18 +76,23 @@ module _ (carries : ℕ → ℕ → Bool) (first : View) (past : History) (w : W
       let z : b .0 ≡ j = omega (arith, b .1, view-inj (sym c ∙ f) .0) in
       rw (g, ← z) (b .2)) (add p u)
 
-  pub keep-hear-gathering : (h : Head) (heard more q k V : ℕ) → w .at r .row ≡ under h (gathering heard) → w .at r .component ≡ Some (view k V) → In (recorded-from q h (number (suc k))) (w .post) → Adds heard q more → Keeps (with-row (w .at r) (under h (gathering more))) []
+  pub keep-hear-gathering : (h : Head) (heard more q k V : ℕ) → w .at r .row ≡ under h (gathering heard) → w .at r .component ≡ Some (view k V)
+      → In (recorded-from q h (number (suc k))) (w .post) → Adds heard q more → Keeps (with-row (w .at r) (under h (gathering more))) []
   keep-hear-gathering h heard more q k V e c m add = phase-move h (gathering heard) (gathering more) e (λ z. z) (heard-more h heard more q k V c m add (at-phase h (gathering heard) e))
 
-  pub keep-hear-confirming : (h : Head) (heard more q k V : ℕ) → w .at r .row ≡ under h (confirming heard) → w .at r .component ≡ Some (view k V) → In (recorded-from q h (number (suc k))) (w .post) → Adds heard q more → Keeps (with-row (w .at r) (under h (confirming more))) []
+  pub keep-hear-confirming : (h : Head) (heard more q k V : ℕ) → w .at r .row ≡ under h (confirming heard) → w .at r .component ≡ Some (view k V)
+      → In (recorded-from q h (number (suc k))) (w .post) → Adds heard q more → Keeps (with-row (w .at r) (under h (confirming more))) []
   keep-hear-confirming h heard more q k V e c m add =
       let a = at-phase h (confirming heard) e in
       phase-move h (confirming heard) (confirming more) e (λ z. z) (record { all-heard = heard-more h heard more q k V c m add (a .all-heard); holds = a .holds })
 
-  pub keep-hear-state : (h : Head) (o : Option View) (q : ℕ) (v : View) → w .at r .row ≡ under h (applying o) → In (state-from q h v) (w .post) → Upto (w .at r .mark) (suc (v .number .0)) → Keeps (with-row (w .at r) (under h (applying (Some v)))) []
+  pub keep-hear-state : (h : Head) (o : Option View) (q : ℕ) (v : View) → w .at r .row ≡ under h (applying o) → In (state-from q h v) (w .post)
+      → Upto (w .at r .mark) (suc (v .number .0)) → Keeps (with-row (w .at r) (under h (applying (Some v)))) []
   keep-hear-state h o q v e m up = phase-move h (applying o) (applying (Some v)) e (λ z. z) (i .mail _ m, up)
 
-  pub keep-hear-entering : (h : Head) (v : View) (heard more q : ℕ) (d : Recorded) → w .at r .row ≡ under h (entering v heard) → w .at r .recorded ≡ Some d → In (recorded-from q h (d .view .number)) (w .post) → Adds heard q more → Keeps (with-row (w .at r) (under h (entering v more))) []
+  pub keep-hear-entering : (h : Head) (v : View) (heard more q : ℕ) (d : Recorded) → w .at r .row ≡ under h (entering v heard)
+      → w .at r .recorded ≡ Some d → In (recorded-from q h (d .view .number)) (w .post) → Adds heard q more
+      → Keeps (with-row (w .at r) (under h (entering v more))) []
   keep-hear-entering h v heard more q d e f m add =
       let a = at-phase h (entering v heard) e in
       let b = i .mail _ m in
@@ -94,7 +101,9 @@ module _ (carries : ℕ → ℕ → Bool) (first : View) (past : History) (w : W
       phase-move h (entering v heard) (entering v more) e (λ z. z)
       (record { reference = a .reference; holds = a .holds; all-heard = λ p u. ⊎-elim (λ (g : has heard p ≡ true). a .all-heard p g) (λ (g : p ≡ q). rw (g, ← z) (b .2)) (add p u) })
 
-  pub keep-hear-report : (h : Head) (reports more : ℕ → Option Report) (q : ℕ) (m : Report) → w .at r .row ≡ under h (round reports) → In (report-from q h m) (w .post) → more r ≡ reports r → ((p : ℕ) (n : Report) → more p ≡ Some n → (reports p ≡ Some n) ⊎ ((p ≡ q) × (n ≡ m))) → Keeps (with-row (w .at r) (under h (round more))) []
+  pub keep-hear-report : (h : Head) (reports more : ℕ → Option Report) (q : ℕ) (m : Report) → w .at r .row ≡ under h (round reports)
+      → In (report-from q h m) (w .post) → more r ≡ reports r → ((p : ℕ) (n : Report) → more p ≡ Some n → (reports p ≡ Some n) ⊎ ((p ≡ q) × (n ≡ m)))
+      → Keeps (with-row (w .at r) (under h (round more))) []
   keep-hear-report h reports more q m e d own add =
       let a = at-phase h (round reports) e in
       let b = i .mail _ d in

@@ -51,14 +51,16 @@ module _ (carries : ℕ → ℕ → Bool) where
   formed-shift s ss (suc t) m u = u
 
   module _ (first : View) (meets : Meets carries) where
-    pub always : (past : History) {w : World} {ss : List Step} → Invariant carries first past w → (r : Run carries w ss) (t : ℕ) → Invariant carries first (history r t past) (world-at w ss t)
+    pub always : (past : History) {w : World} {ss : List Step} → Invariant carries first past w → (r : Run carries w ss) (t : ℕ)
+        → Invariant carries first (history r t past) (world-at w ss t)
     always past i none zero = i
     always past i none (suc t) = i
     always past i (call c r) zero = i
     always past i (call c r) (suc t) = always (in-call carries c ++ past) (call-keeps carries first meets past i c) r t
 
     -- a report that the history has was formed by then
-    pub formed-by : (h : Head) (past : History) {w : World} {ss : List Step} (r : Run carries w ss) (t : ℕ) → In (forms h) (history r t past) → In (forms h) past ⊎ ((j : ℕ) × (j ≤ t) × Forms w ss j h)
+    pub formed-by : (h : Head) (past : History) {w : World} {ss : List Step} (r : Run carries w ss) (t : ℕ) → In (forms h) (history r t past)
+        → In (forms h) past ⊎ ((j : ℕ) × (j ≤ t) × Forms w ss j h)
     formed-by h past none zero u = inl u
     formed-by h past none (suc t) u = inl u
     formed-by h past (call c r) zero u = inl u
@@ -70,7 +72,8 @@ module _ (carries : ℕ → ℕ → Bool) where
         (formed-by h (in-call carries c ++ past) r t u)
 
     -- a view that the history has installed was held then
-    pub held-by : (n X : ℕ) (past : History) {w : World} {ss : List Step} (r : Run carries w ss) (t : ℕ) → In (installs n X) (history r t past) → In (installs n X) past ⊎ ((j q : ℕ) × (j ≤ t) × (world-at w ss j .at q .component ≡ Some (view n X)))
+    pub held-by : (n X : ℕ) (past : History) {w : World} {ss : List Step} (r : Run carries w ss) (t : ℕ) → In (installs n X) (history r t past)
+        → In (installs n X) past ⊎ ((j q : ℕ) × (j ≤ t) × (world-at w ss j .at q .component ≡ Some (view n X)))
     held-by n X past none zero u = inl u
     held-by n X past none (suc t) u = inl u
     held-by n X past (call c r) zero u = inl u
@@ -93,7 +96,8 @@ module _ (carries : ℕ → ℕ → Bool) where
       pub reported : In (forms h) past ⊎ ((j : ℕ) × (j ≤ suc t) × Forms w ss j h)
       pub least : (then : History) → Was then (history r t past) → Rooted carries first then → (In (forms h) then → ⊥) → (m Y : ℕ) → In (installs m Y) then → m ≤ n
 
-    pub settling : (h : Head) (v : View) (past : History) {w : World} {ss : List Step} → Invariant carries first past w → (r : Run carries w ss) (t : ℕ) → settled-at ss (suc t) ≡ Some (settlement h v) → Settling past r t h (v .number .0)
+    pub settling : (h : Head) (v : View) (past : History) {w : World} {ss : List Step} → Invariant carries first past w
+        → (r : Run carries w ss) (t : ℕ) → settled-at ss (suc t) ≡ Some (settlement h v) → Settling past r t h (v .number .0)
     settling h v past i none t u = absurd (none-some u)
     settling h v past i (call {s = s} c r) zero u =
         let a = settled-by-call carries first meets past i c h v u in

@@ -43,7 +43,8 @@ module _ (carries : ℕ → ℕ → Bool) (first : View) (meets : Meets carries)
   past-after v = installs (v .number .0) (v .set .0) ∷ past
 
   -- the settled view becomes the component view
-  settling : (v : View) → Upto (w .at r .mark) (suc (v .number .0)) → ((s Y : ℕ) → In (records r (v .number .0) s Y) past → Dead-after carries first meets past w r i h reports e v s Y)
+  settling : (v : View) → Upto (w .at r .mark) (suc (v .number .0))
+      → ((s Y : ℕ) → In (records r (v .number .0) s Y) past → Dead-after carries first meets past w r i h reports e v s Y)
       → (Later past w (past-after v) (after v) → Rooted carries first (past-after v)) → Invariant carries first (past-after v) (after v)
   settling v up fate ro =
       let n : ℕ = v .number .0 in

@@ -98,7 +98,9 @@ module _ (carries : ℕ → ℕ → Bool) where
         row-ok = row-stays x (x .row) (a .row-ok);
       }
 
-    pub rival-stays : (k s X t Y : ℕ) → ((s ≡ t) × (X ≡ Y)) ⊎ ((V : ℕ) × In (installs k V) past × (Dead carries past w k V s X ⊎ Dead carries past w k V t Y)) → ((s ≡ t) × (X ≡ Y)) ⊎ ((V : ℕ) × In (installs k V) past′ × (Dead carries past′ w′ k V s X ⊎ Dead carries past′ w′ k V t Y))
+    pub rival-stays : (k s X t Y : ℕ)
+        → ((s ≡ t) × (X ≡ Y)) ⊎ ((V : ℕ) × In (installs k V) past × (Dead carries past w k V s X ⊎ Dead carries past w k V t Y))
+        → ((s ≡ t) × (X ≡ Y)) ⊎ ((V : ℕ) × In (installs k V) past′ × (Dead carries past′ w′ k V s X ⊎ Dead carries past′ w′ k V t Y))
     rival-stays k s X t Y (inl b) = inl b
     rival-stays k s X t Y (inr b) = inr (b .0, since _ (b .1), ⊎-elim (λ (d : Dead carries past w k (b .0) s X). inl (dead-stays k (b .0) s X d)) (λ (d : Dead carries past w k (b .0) t Y). inr (dead-stays k (b .0) t Y d)) (b .2))
 
@@ -115,7 +117,8 @@ module _ (carries : ℕ → ℕ → Bool) where
 
   -- the replica r has become x, has posted ms, and es happened
   module _ (first : View) (past : History) (w : World) (r : ℕ) (x : Node) (ms : List Message) (es : History) where
-    pub later : ((s X : ℕ) → May x s X → May (w .at r) s X) → ((q k s X : ℕ) → In (records q k s X) es → (q ≡ r) × May (w .at r) s X) → Later past w (es ++ past) (put w r x ms)
+    pub later : ((s X : ℕ) → May x s X → May (w .at r) s X) → ((q k s X : ℕ) → In (records q k s X) es → (q ≡ r) × May (w .at r) s X)
+        → Later past w (es ++ past) (put w r x ms)
     later may new = record {
       more = was-more past past es (was-same past);
       may = λ q s X. by w r x ms q (λ (y : Node). May y s X → May (w .at q) s X) (λ e a. subst (λ (i : ℕ). May (w .at i) s X) (sym e) (may s X a)) (λ d a. a);

@@ -34,7 +34,8 @@ forms-inj : {h g : Head} → forms h ≡ forms g → h ≡ g
 forms-inj u = cc
 
 -- a report that was formed is among the messages
-formed-in-move : {post : List Message} {r : ℕ} {x y : Node} {ms : List Message} (m : Move post r x y ms) (h : Head) → In (forms h) (in-move m) → (q : ℕ) × (n : Report) × In (report-from q h n) ms
+formed-in-move : {post : List Message} {r : ℕ} {x y : Node} {ms : List Message} (m : Move post r x y ms) (h : Head) → In (forms h) (in-move m)
+    → (q : ℕ) × (n : Report) × In (report-from q h n) ms
 formed-in-move (take-up g a b c) h u = absurd u
 formed-in-move (gather g heard a b) h u = absurd u
 formed-in-move (apply g a) h u = absurd u
@@ -99,7 +100,8 @@ module _ (carries : ℕ → ℕ → Bool) where
   formed-in-finish (settle-outside g u reports a d) h z = z
   formed-in-finish become-spare h u = u
 
-  pub formed-in-chain : {post : List Message} {r : ℕ} {x z : Node} {ms : List Message} {s : Option Settlement} (c : Chain carries post r x ms s z) (h : Head) → In (forms h) (in-chain carries c) → (q : ℕ) × (n : Report) × In (report-from q h n) ms
+  pub formed-in-chain : {post : List Message} {r : ℕ} {x z : Node} {ms : List Message} {s : Option Settlement} (c : Chain carries post r x ms s z) (h : Head)
+      → In (forms h) (in-chain carries c) → (q : ℕ) × (n : Report) × In (report-from q h n) ms
   formed-in-chain rest h u = absurd u
   formed-in-chain (go {ms = ms} {ns = ns} m c) h u =
       ⊎-elim (λ (a : In (forms h) (in-chain carries c)). let b = formed-in-chain c h a in (b .0, b .1, in-left (report-from (b .0) h (b .1)) ns ms (b .2)))
@@ -107,7 +109,8 @@ module _ (carries : ℕ → ℕ → Bool) where
   formed-in-chain (end f) h u = absurd (formed-in-finish f h u)
 
   -- what a chain installs it holds at its end
-  installed-by-finish : {r : ℕ} {x y : Node} {s : Option Settlement} (f : Finish carries r x y s) (n X : ℕ) → In (installs n X) (in-finish carries f) → y .component ≡ Some (view n X)
+  installed-by-finish : {r : ℕ} {x y : Node} {s : Option Settlement} (f : Finish carries r x y s) (n X : ℕ) → In (installs n X) (in-finish carries f)
+      → y .component ≡ Some (view n X)
   installed-by-finish (member-installs g u d heard part a b c e f) n X (inl z) = view-at z
   installed-by-finish (member-installs g u d heard part a b c e f) n X (inr z) = absurd z
   installed-by-finish (newcomer-installs g u d heard part a b c e) n X (inl z) = view-at z
@@ -117,7 +120,8 @@ module _ (carries : ℕ → ℕ → Bool) where
   installed-by-finish (settle-outside g u reports a d) n X z = absurd z
   installed-by-finish become-spare n X u = absurd u
 
-  pub installed-by-chain : {post : List Message} {r : ℕ} {x z : Node} {ms : List Message} {s : Option Settlement} (c : Chain carries post r x ms s z) (n X : ℕ) → In (installs n X) (in-chain carries c) → z .component ≡ Some (view n X)
+  pub installed-by-chain : {post : List Message} {r : ℕ} {x z : Node} {ms : List Message} {s : Option Settlement} (c : Chain carries post r x ms s z) (n X : ℕ)
+      → In (installs n X) (in-chain carries c) → z .component ≡ Some (view n X)
   installed-by-chain rest n X u = absurd u
   installed-by-chain (go m c) n X u =
       ⊎-elim (λ (a : In (installs n X) (in-chain carries c)). installed-by-chain c n X a) (λ (a : In (installs n X) (in-move m)). absurd (no-install m n X a)) (in-split (installs n X) (in-chain carries c) (in-move m) u)
@@ -130,7 +134,8 @@ module _ (carries : ℕ → ℕ → Bool) where
       pub least : (then : History) → Was then past → Rooted carries first then → (In (forms h) then → ⊥) → (m Y : ℕ) → In (installs m Y) then → m ≤ n
 
     module _ (past : History) (w : World) (r : ℕ) (i : Invariant carries first past w) where
-      decided : (es : History) (g h : Head) (reports : ℕ → Option Report) (u v : View) → w .at r .row ≡ under g (round reports) → Decides reports carries u → _≡_ {A = Option Settlement} (Some (settlement g u)) (Some (settlement h v)) → Settled past es h (v .number .0)
+      decided : (es : History) (g h : Head) (reports : ℕ → Option Report) (u v : View) → w .at r .row ≡ under g (round reports)
+          → Decides reports carries u → _≡_ {A = Option Settlement} (Some (settlement g u)) (Some (settlement h v)) → Settled past es h (v .number .0)
       decided es g h reports u v a d e =
           subst (λ (y : Head). Settled past es y (v .number .0)) (settlement-head e)
           (subst (λ (y : View). Settled past es g (y .number .0)) (settlement-view e)
@@ -139,14 +144,17 @@ module _ (carries : ℕ → ℕ → Bool) where
             least = λ then was ro early j Y b. never-back carries first meets past w r i g reports a then was ro early u d j Y b;
           }))
 
-      settled-by-finish : (y : Node) (s : Option Settlement) (f : Finish carries r (w .at r) y s) (h : Head) (v : View) → s ≡ Some (settlement h v) → Settled past (in-finish carries f) h (v .number .0)
+      settled-by-finish : (y : Node) (s : Option Settlement) (f : Finish carries r (w .at r) y s) (h : Head) (v : View) → s ≡ Some (settlement h v)
+          → Settled past (in-finish carries f) h (v .number .0)
       settled-by-finish y s (member-installs g u d heard part a b c e f) h v z = absurd (none-some z)
       settled-by-finish y s (newcomer-installs g u d heard part a b c e) h v z = absurd (none-some z)
       settled-by-finish y s (settle g u reports a d) h v z = decided (installs (u .number .0) (u .set .0) ∷ []) g h reports u v a d z
       settled-by-finish y s (settle-outside g u reports a d) h v z = decided [] g h reports u v a d z
       settled-by-finish y s become-spare h v u = absurd (none-some u)
 
-    pub settled-by-chain : (post : List Message) (r : ℕ) (past : History) (w : World) → Invariant carries first past w → ((m : Message) → In m post → In m (w .post)) → {x z : Node} {ms : List Message} {s : Option Settlement} → w .at r ≡ x → (c : Chain carries post r x ms s z) (h : Head) (v : View) → s ≡ Some (settlement h v) → Settled past (in-chain carries c) h (v .number .0)
+    pub settled-by-chain : (post : List Message) (r : ℕ) (past : History) (w : World) → Invariant carries first past w
+        → ((m : Message) → In m post → In m (w .post)) → {x z : Node} {ms : List Message} {s : Option Settlement} → w .at r ≡ x
+        → (c : Chain carries post r x ms s z) (h : Head) (v : View) → s ≡ Some (settlement h v) → Settled past (in-chain carries c) h (v .number .0)
     settled-by-chain post r past w i sub e rest h v u = absurd (none-some u)
     settled-by-chain post r past w i sub e (go {y = y} {ms = ms} m c) h v u =
         let b = settled-by-chain post r (in-move m ++ past) (put w r y ms) (stepped carries first meets past w r i post sub e m) (λ l d. in-right l ms (w .post) (sub l d)) (here w r y ms) c h v u in
