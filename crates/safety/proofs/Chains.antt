@@ -49,11 +49,11 @@ module _ (carries : ℕ → ℕ → Bool) (first : View) (meets : Meets carries)
     move-keeps post sub y ms (wait-again a) = keep-wait-again carries first past w r i a
 
     finish-keeps : (y : Node) (s : Option Settlement) (f : Finish carries r (w .at r) y s) → Invariant carries first (in-finish carries f ++ past) (put w r y [])
-    finish-keeps y s (member-installs h v d heard part a b c e f) = keep-member-installs carries first meets past w r i h heard (v .number .0) (v .set .0) part d a b c e f
-    finish-keeps y s (newcomer-installs h v d heard part a b c e) = keep-newcomer-installs carries first meets past w r i h v heard part d a b c e
+    finish-keeps y s (member-installs h v d heard part a b c e f) = keep-member-installs carries first past w r i meets h v d heard part a b c e f
+    finish-keeps y s (newcomer-installs h v d heard part a b c e) = keep-newcomer-installs carries first past w r i meets h v d heard part a b c e
     finish-keeps y s (settle h v reports a d) = keep-settle carries first meets past w r i h reports a v d
-    finish-keeps y s (settle-outside h v reports a d) = keep-spare carries first past w r i [] (λ q k t Y u. u) (λ j Y u. u)
-    finish-keeps y s become-spare = keep-spare carries first past w r i [] (λ q k t Y u. u) (λ j Y u. u)
+    finish-keeps y s (settle-outside h v reports a d) = keep-spare carries first past w r i
+    finish-keeps y s become-spare = keep-spare carries first past w r i
 
     -- the same, of a replica that is known to be x
     pub stepped : (post : List Message) → ((m : Message) → In m post → In m (w .post)) → {x y : Node} {ms : List Message} → w .at r ≡ x

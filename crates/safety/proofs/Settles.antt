@@ -1,5 +1,5 @@
 -- Settling a round. Assumes nothing.
-use mathlib.Core.Path.{_≡_, refl, sym, subst}
+use mathlib.Core.Path.{_≡_, sym, subst}
 use mathlib.Core.List.{[], _∷_}
 use mathlib.Core.Bool.{Bool}
 use mathlib.Core.Logic.{_⊎_, inl, inr}
@@ -15,7 +15,7 @@ use Rattle.safety.specs.Replicas.Phase.{round}
 use Rattle.safety.specs.Replicas.Row.{under}
 use Rattle.safety.specs.Rounds.{Low, Decides}
 use Rattle.safety.specs.Runs.{World}
-use Rattle.safety.proofs.History.{Event, History, installs-inj, records-installs}
+use Rattle.safety.proofs.History.{Event, History, installs-inj}
 use Rattle.safety.proofs.History.Event.{records, installs}
 use Rattle.safety.proofs.Invariant.{Rooted, Invariant, Later}
 use Rattle.safety.proofs.Marks.{Reaches, raise-keeps, raise-one, upto-not}
@@ -32,10 +32,6 @@ module _ (carries : ℕ → ℕ → Bool) (first : View) (meets : Meets carries)
   own-mark : (v : View) → Low reports v → Upto (w .at r .mark) (suc (v .number .0))
   own-mark v low = low r (content (w .at r)) (in-round carries first meets past w r i h reports e .own)
 
-  no-records : (v : View) (q k s Y : ℕ) → In (records q k s Y) (installs (v .number .0) (v .set .0) ∷ []) → ⊥
-  no-records v q k s Y (inl u) = records-installs u
-  no-records v q k s Y (inr u) = u
-
   abbrev after : View → World
   after v = put w r (holding (w .at r) (raise (w .at r .mark) (v .number .0)) v) []
 
@@ -47,12 +43,10 @@ module _ (carries : ℕ → ℕ → Bool) (first : View) (meets : Meets carries)
       → ((s Y : ℕ) → In (records r (v .number .0) s Y) past → Dead-after carries first meets past w r i h reports e v s Y)
       → (Later past w (past-after v) (after v) → Rooted carries first (past-after v)) → Invariant carries first (past-after v) (after v)
   settling v up fate ro =
-      let n : ℕ = v .number .0 in
-      let mark : Option Number = raise (w .at r .mark) n in
-      let es : History = installs n (v .set .0) ∷ [] in
-      let keeps : (k : ℕ) → Reaches (w .at r .mark) k → Reaches mark k = λ k a. raise-keeps (w .at r .mark) n k a in
-      installed carries first past w r i mark n (v .set .0) es (no-records v) (inl refl) (raise-one (w .at r .mark) n up) keeps fate
-      (ro (then carries first past w r i mark n (v .set .0) es (no-records v) (inl refl) (raise-one (w .at r .mark) n up) keeps fate))
+      let mark : Option Number = raise (w .at r .mark) (v .number .0) in
+      let fits = raise-one (w .at r .mark) (v .number .0) up in
+      let raised : (k : ℕ) → Reaches (w .at r .mark) k → Reaches mark k = raise-keeps (w .at r .mark) (v .number .0) in
+      installed carries first past w r i mark v fits raised fate (ro (then carries first past w r i mark v fits raised fate))
 
   -- the settled view was installed before
   again : (v : View) → In (installs (v .number .0) (v .set .0)) past → Later past w (past-after v) (after v) → Rooted carries first (past-after v)
