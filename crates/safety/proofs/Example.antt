@@ -289,11 +289,17 @@ goes-on = record {
   started = started;
   run = run;
   installed = record { by = 0; holds = refl; new = λ j e h. let z : j ≡ 2 = omega arith in not-8 (subst (λ (t : ℕ). world-at start calls t .at 0 .component ≡ Some (view 8 3)) z h) };
+  agreed = agreed;
   failed = failed;
   settled = refl;
   followed = record { by = 1; holds = refl; new = λ j e h. let z : j ≡ 8 = omega arith in not-8 (subst (λ (t : ℕ). world-at start calls t .at 1 .component ≡ Some (view 8 3)) z h) };
 }
   where
+    agreed : (q : ℕ) → has 3 q ≡ true → world-at start calls 2 .at q .recorded ≡ Some (recorded 8 3 1)
+    agreed zero h = refl
+    agreed (suc zero) h = refl
+    agreed (suc (suc q)) h = absurd (no-more q h)
+
     failed : (q : ℕ) → has 3 q ≡ true → (world-at start calls 5 .at q .normal ≡ false) × (world-at start calls 5 .at q .row ≡ idle)
     failed zero h = (refl, refl)
     failed (suc zero) h = (refl, refl)
