@@ -1,4 +1,5 @@
--- What happened in a run, as the proof keeps account of it: no statement speaks of it. Assumes nothing.
+-- What happened in a run, as the proof keeps account of it: no statement speaks of it. In the proofs k, n and j are view numbers, s and t stamps,
+-- V, X and Y sets, and `past` is what has happened so far. Assumes nothing.
 use mathlib.Core.Path.{_≡_}
 use mathlib.Core.List.{List, [], _∷_, _++_}
 use mathlib.Core.Bool.{Bool}

@@ -1,5 +1,6 @@
 -- What the moves see: of a replica's page and row as much as the findings rest on, and the messages that replicas form.
--- Replicas are numbered from 0, a set is the number of its bits, and `has` says who is in it. Assumes nothing.
+-- Replicas are numbered from 0, a set is the number of its bits, and `has` says who is in it. Here and in what follows q, r and p are replicas,
+-- x is what one of them keeps, h is a head, v and u are views, d is a recorded view, m is a message or a report. Assumes nothing.
 use mathlib.Core.Path.{_≡_}
 use mathlib.Core.List.{List, [], _∷_}
 use mathlib.Core.Bool.{Bool, true, false}
