@@ -104,6 +104,7 @@ pub(crate) fn check_view(replica: u8, page: &Page, row: &Row, head: Head) -> Res
 // A message against the rules; it comes before everything else.
 pub fn check_message(replica: u8, message: &Message) -> Result<(), Fault>
     ensures test { λ r. ⌜ r ≡ allowed (message-refusal replica (now (message .entry))) ⌝ }
+    ensures sender { λ r. ⌜ made r (λ _. now (message .entry) .sender < 16) ⌝ }
 {
     refuse_if(!message.keeps_rules(), Reason::AgainstRules, replica)
 }

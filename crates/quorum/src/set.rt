@@ -28,7 +28,8 @@ impl ReplicaSet {
 
     // Any number may be asked for: a replica above 15 is in no set.
     pub fn contains(self, replica: u8) -> bool
-        ensures { λ b. ⌜ b ≡ has (self .0) replica ⌝ }
+        ensures test { λ b. ⌜ b ≡ has (self .0) replica ⌝ }
+        ensures within { λ b. ⌜ (b ≡ true → replica < 16) ⌝ }
     {
         replica < 16 && (self.0 >> replica) & 1 == 1
     }

@@ -1,6 +1,6 @@
 // The rules that messages and rows keep.
 ghost use mathlib.Core.Path.{_≡_};
-ghost use mathlib.Core.Bool.{not};
+ghost use mathlib.Core.Bool.{true, not};
 ghost use Prim.Native.Nat.{ℕ, _<_};
 ghost use Rattle.rounds.specs.Reports.{reported};
 ghost use Rattle.rows.specs.Messages.{kind-number, reporting-mode, reported-page, report-keeps, body-keeps, message-keeps};
@@ -85,7 +85,8 @@ fn body_keeps_rules(sender: u8, head: Head, body: &Body) -> bool
 
 impl Message {
     pub fn keeps_rules(&self) -> bool
-        ensures { λ b. ⌜ b ≡ message-keeps (now (self .entry)) ⌝ }
+        ensures test { λ b. ⌜ b ≡ message-keeps (now (self .entry)) ⌝ }
+        ensures sender { λ b. ⌜ (b ≡ true → now (self .entry) .sender < 16) ⌝ }
     {
         self.head.set.contains(self.sender) && body_keeps_rules(self.sender, self.head, &self.body)
     }
