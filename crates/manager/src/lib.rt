@@ -11,6 +11,10 @@ mod take_up;
 mod verdict;
 
 pub use answer::Answer;
+pub use calls::deliver;
+pub use calls::lose;
+pub use calls::start;
+pub use calls::stop;
 pub use calls::view;
 pub use need::Need;
 pub use refuse::check_message;
