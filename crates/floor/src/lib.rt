@@ -1,0 +1,4 @@
+// The floor: sixteen replicas over one store.
+mod floor;
+
+pub use floor::Floor;
