@@ -1,7 +1,7 @@
 -- A new floor, and its founding. Assumes nothing.
 use mathlib.Core.Path.{_≡_}
 use mathlib.Core.Bool.{Bool, true, false, not, _&&_, _||_, cond}
-use mathlib.Core.List.{List}
+use mathlib.Core.List.{List, []}
 use Prim.Native.Nat.{ℕ, _<_, _≤_}
 use lib.Dec.{eqb, leb, ltb}
 use lib.ListN.{getD}
@@ -16,9 +16,11 @@ use Rattle.quorum.specs.declared.fault.Reason.{Reason}
 use Rattle.quorum.specs.declared.fault.Reason.the-variants.{BadFounding, NotFresh}
 use Rattle.manager.specs.Calls.{empty-row}
 use Rattle.manager.specs.Effects.{nobody-set}
+use Rattle.manager.specs.declared.need.Need.{Need}
+use Rattle.rows.specs.declared.message.Message.{Message}
 use Rattle.rows.specs.declared.row.Row.{Row}
 use Rattle.rows.specs.declared.row.Stage.the-variants.{Idle}
-use Rattle.stores.specs.Kept.{page-at}
+use Rattle.stores.specs.Kept.{fresh, page-at}
 use Rattle.stores.specs.declared.page.Mode.{Mode}
 use Rattle.stores.specs.declared.page.Mode.the-variants.{Waiting, Joining, Normal, Reconfiguration}
 use Rattle.stores.specs.declared.page.Page.{Page}
@@ -65,3 +67,10 @@ Founded-pages v before n after = (r : ℕ) → r < 16 → page-at after r ≡ co
 
 abbrev pub Founded-rows : View → List Row → Type 0
 Founded-rows v rows = (r : ℕ) → r < 16 → row-at rows r ≡ founding-row v r
+
+-- what a founding leaves: members have the first view and no other page is touched, all fresh before; rows, need and post
+pub record Founding (v : View) (need : Need) (pages : List Page) (rows : List Row) (needed : Need) (post : List Message) : Type 0 where
+  pub pages-are : (r : ℕ) → r < 16 → page-at pages r ≡ cond (has (v .set .0) r) (founding-page v) fresh
+  pub rows-are : Founded-rows v rows
+  pub need-is : needed ≡ need
+  pub silent : post ≡ []

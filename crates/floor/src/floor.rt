@@ -4,18 +4,26 @@ ghost use mathlib.Core.Path.{_≡_};
 ghost use lib.Dec.{ltb};
 ghost use lib.ListN.{replicate};
 ghost use Rattle.std.specs.declared.option.Option.the-variants.{Some, None};
-ghost use Rattle.manager.specs.Calls.{empty-row};
+ghost use Rattle.manager.specs.Calls.{empty-row, allowed};
+ghost use Rattle.std.specs.Of.Vec.{vec-items};
+ghost use Rattle.std.specs.Vec.{made, refused};
 ghost use Rattle.stores.specs.Kept.{page-at};
-ghost use Rattle.floor.specs.Founding.{row-at};
+ghost use Rattle.floor.specs.Founding.{row-at, founding-refusal, Founding};
+use super::founding::check_founding;
+use super::founding::founding_rows;
+use super::founding::write_founding;
 use lend::Table;
 use manager::Need;
+use quorum::Fault;
 use quorum::QuorumRule;
 use quorum::ReplicaSet;
+use rows::Message;
 use rows::Row;
 use rows::Stage;
 use stores::Breakable;
 use stores::Page;
 use stores::Store;
+use stores::View;
 
 #[derive(Drop)]
 pub struct Floor<R, S> {
@@ -79,5 +87,20 @@ impl<R: QuorumRule + Copy, S: Breakable + Drop> Floor<R, S> {
         ensures { λ n. ⌜ n ≡ now (self .entry) .need ⌝ }
     {
         self.need
+    }
+
+    // Founding: members of the set hold the first view, all sixteen replicas are up and idle, and the post is emptied.
+    pub fn found(&mut self, post: &mut Vec<Message>, view: View, need: Need) -> Result<(), Fault>
+        ensures answer { λ r. ⌜ r ≡ allowed (founding-refusal view (S·Store .pages (now (self .entry) .store)) (S·Store .places (now (self .entry) .store))) ⌝ }
+        ensures founded { λ r. ⌜ made r (λ _. Founding view need (S·Store .pages (now (self .exit) .store)) (now (self .exit) .table .rows) (now (self .exit) .need) (vec-items (now (post .exit)))) ⌝ }
+        ensures rule { λ _. ⌜ now (self .exit) .rule ≡ now (self .entry) .rule ⌝ }
+        ensures kept { λ r. ⌜ refused r (λ _. (now (self .exit) ≡ now (self .entry)) × (now (post .exit) ≡ now (post .entry))) ⌝ }
+    {
+        check_founding(&self.store, view)?;
+        write_founding(&mut self.store, view)?;
+        self.table = Table::new(founding_rows(view));
+        self.need = need;
+        post.clear();
+        Ok(())
     }
 }

@@ -1,8 +1,8 @@
 // What an accepted call answers.
 ghost use mathlib.Core.Path.{_≡_};
 ghost use Rattle.std.specs.declared.option.Option.the-variants.{None};
-use rows::Posts;
 use rounds::Outcome;
+use rows::Posts;
 use stores::View;
 
 #[derive(Clone, Copy)]

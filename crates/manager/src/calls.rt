@@ -3,7 +3,6 @@
 ghost use mathlib.Core.Path.{_≡_};
 ghost use Prim.Native.Nat.{_<_};
 ghost use Rattle.manager.specs.Calls.{following, heard-or-not, losing, empty-row, started, viewed, delivered, lost-at, stopped-at, started-at, answer-of, page-left, row-left};
-
 ghost use Rattle.manager.specs.Effects.{in-mode};
 ghost use Rattle.manager.specs.Hearing.{hears};
 use super::answer::Answer;

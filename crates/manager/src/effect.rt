@@ -5,21 +5,21 @@ ghost use Rattle.manager.specs.Effects.{closed, raised, component-page, compon
 ghost use Rattle.std.specs.declared.option.Option.the-variants.{Some};
 use super::answer::Answer;
 use super::judge::judge;
-use rows::Body;
-use rows::Message;
-use rows::Part;
-use rows::Posts;
 use super::need::Need;
-use rows::Applied;
-use rows::Confirmed;
-use rows::Entered;
-use rows::Gathered;
-use rows::Row;
-use rows::Stage;
 use super::verdict::Verdict;
 use quorum::QuorumRule;
 use quorum::ReplicaSet;
 use rounds::Outcome;
+use rows::Applied;
+use rows::Body;
+use rows::Confirmed;
+use rows::Entered;
+use rows::Gathered;
+use rows::Message;
+use rows::Part;
+use rows::Posts;
+use rows::Row;
+use rows::Stage;
 use stores::Head;
 use stores::Mode;
 use stores::Number;
@@ -99,7 +99,13 @@ fn settle(replica: u8, page: &mut Page, row: &mut Row, settled: Option<View>)
 }
 
 // Carries a verdict out; recording is carried out before.
-pub(crate) fn carry_out(replica: u8, page: &mut Page, row: &mut Row, posts: Posts, verdict: Verdict) -> Answer
+pub(crate) fn carry_out(
+    replica: u8,
+    page: &mut Page,
+    row: &mut Row,
+    posts: Posts,
+    verdict: Verdict,
+) -> Answer
     ensures answer { λ a. ⌜ a ≡ carried-out replica (now (page .entry)) (now (row .entry)) posts verdict .answer ⌝ }
     ensures page { λ _. ⌜ now (page .exit) ≡ carried-out replica (now (page .entry)) (now (row .entry)) posts verdict .page ⌝ }
     ensures row { λ _. ⌜ now (row .exit) ≡ carried-out replica (now (page .entry)) (now (row .entry)) posts verdict .row ⌝ }
@@ -170,7 +176,13 @@ fn next_number(number: Number) -> Option<Number>
 }
 
 // A member records the head with its component view's number plus one. Its own Recorded counts as heard.
-fn record_member(replica: u8, page: &mut Page, row: &mut Row, head: Head, gathered: Gathered) -> Option<Message>
+fn record_member(
+    replica: u8,
+    page: &mut Page,
+    row: &mut Row,
+    head: Head,
+    gathered: Gathered,
+) -> Option<Message>
     ensures message { λ m. ⌜ m ≡ member-entry replica (now (page .entry)) (now (row .entry)) head gathered (next-component (now (page .entry) .component)) .message ⌝ }
     ensures page { λ _. ⌜ now (page .exit) ≡ member-entry replica (now (page .entry)) (now (row .entry)) head gathered (next-component (now (page .entry) .component)) .page ⌝ }
     ensures row { λ _. ⌜ now (row .exit) ≡ member-entry replica (now (page .entry)) (now (row .entry)) head gathered (next-component (now (page .entry) .component)) .row ⌝ }
@@ -191,7 +203,13 @@ fn record_member(replica: u8, page: &mut Page, row: &mut Row, head: Head, gather
 }
 
 // A newcomer records the head with the reference's number plus one, and joins.
-fn record_newcomer(replica: u8, page: &mut Page, row: &mut Row, head: Head, applied: Applied) -> Option<Message>
+fn record_newcomer(
+    replica: u8,
+    page: &mut Page,
+    row: &mut Row,
+    head: Head,
+    applied: Applied,
+) -> Option<Message>
     ensures message { λ m. ⌜ m ≡ newcomer-entry replica (now (page .entry)) (now (row .entry)) head (applied .reference) .message ⌝ }
     ensures page { λ _. ⌜ now (page .exit) ≡ newcomer-entry replica (now (page .entry)) (now (row .entry)) head (applied .reference) .page ⌝ }
     ensures row { λ _. ⌜ now (row .exit) ≡ newcomer-entry replica (now (page .entry)) (now (row .entry)) head (applied .reference) .row ⌝ }

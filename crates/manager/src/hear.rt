@@ -139,8 +139,6 @@ fn may_hear(hears: bool, already: bool) -> Result<(), Reason>
     Ok(())
 }
 
-
-
 fn hear_stage(page: &Page, row: &mut Row, sender: u8, body: &Body) -> Result<Hearing, Reason>
     requires { ⌜ sender < 16 ⌝ }
     ensures answer { λ r. ⌜ r ≡ hearing-of (hears-stage (now (page .entry)) (now (row .entry) .survivors) sender (now (body .entry)) (now (row .entry) .stage)) ⌝ }
@@ -164,12 +162,18 @@ fn hear_stage(page: &Page, row: &mut Row, sender: u8, body: &Body) -> Result<Hea
             Ok(Hearing::Heard)
         }
         (Stage::Gathering(_, gathered), Body::Report(report)) => {
-            may_hear(matches!(report.mode, Mode::Reconfiguration), gathered.answered)?;
+            may_hear(
+                matches!(report.mode, Mode::Reconfiguration),
+                gathered.answered,
+            )?;
             gathered.answered = true;
             Ok(Hearing::Answered)
         }
         (Stage::Confirming(_, confirmed), Body::Recorded(number, part)) => {
-            let already = confirmed.members.union(confirmed.newcomers).contains(sender);
+            let already = confirmed
+                .members
+                .union(confirmed.newcomers)
+                .contains(sender);
             may_hear(is_recorded(page.recorded, *number), already)?;
             match part {
                 Part::Member => confirmed.members = confirmed.members.with(sender),
@@ -178,12 +182,16 @@ fn hear_stage(page: &Page, row: &mut Row, sender: u8, body: &Body) -> Result<Hea
             Ok(Hearing::Heard)
         }
         (Stage::Confirming(_, confirmed), Body::Report(report)) => {
-            may_hear(matches!(report.mode, Mode::Reconfiguration), confirmed.answered)?;
+            may_hear(
+                matches!(report.mode, Mode::Reconfiguration),
+                confirmed.answered,
+            )?;
             confirmed.answered = true;
             Ok(Hearing::Answered)
         }
         (Stage::Applying(_, applied), Body::State(component, theirs)) => {
-            let fits = reaches_mark(page.mark, component.number) && is_reference(applied.reference, *component);
+            let fits = reaches_mark(page.mark, component.number)
+                && is_reference(applied.reference, *component);
             may_hear(fits, applied.states.contains(sender))?;
             applied.states = applied.states.with(sender);
             applied.reference = Some(fix(applied.reference, *component, *theirs));

@@ -5,6 +5,12 @@ ghost use Rattle.std.specs.Options.{isSome};
 ghost use Rattle.manager.specs.Verdicts.{gathering-verdict, carrying-verdict, confirming-verdict, possible-senders, asked, need-met, applying-verdict, entering-verdict, unheard, heard-of, round-end, round-verdict, stage-verdict, verdict-of};
 ghost use Rattle.rounds.specs.Reports.{reported};
 use super::need::Need;
+use super::verdict::Verdict;
+use quorum::QuorumRule;
+use quorum::ReplicaSet;
+use rounds::Outcome;
+use rounds::Report;
+use rounds::decide;
 use rows::Applied;
 use rows::Confirmed;
 use rows::Entered;
@@ -12,21 +18,22 @@ use rows::Gathered;
 use rows::Reference;
 use rows::Row;
 use rows::Stage;
-use super::verdict::Verdict;
-use quorum::QuorumRule;
-use quorum::ReplicaSet;
-use rounds::Outcome;
-use rounds::Report;
-use rounds::decide;
 use stores::Head;
 use stores::Page;
 use stores::View;
 
 // Newcomers, members of the head outside the survivors, whose Recorded was not heard.
-fn unheard(head: Head, survivors: ReplicaSet, members: ReplicaSet, newcomers: ReplicaSet) -> ReplicaSet
+fn unheard(
+    head: Head,
+    survivors: ReplicaSet,
+    members: ReplicaSet,
+    newcomers: ReplicaSet,
+) -> ReplicaSet
     ensures { λ s. ⌜ s .0 ≡ unheard head (survivors .0) (members .0) (newcomers .0) ⌝ }
 {
-    head.set.difference(survivors).difference(members.union(newcomers))
+    head.set
+        .difference(survivors)
+        .difference(members.union(newcomers))
 }
 
 fn judge_gathering(
@@ -96,7 +103,11 @@ fn possible_senders(replica: u8, lost: ReplicaSet, head: Head, applied: Applied)
     let Some(reference) = applied.reference else {
         return applied.sources.difference(lost.with(replica));
     };
-    reference.component.set.intersection(head.set).difference(lost.with(replica))
+    reference
+        .component
+        .set
+        .intersection(head.set)
+        .difference(lost.with(replica))
 }
 
 // Out of how many States are asked.
@@ -119,7 +130,13 @@ fn is_need_met(need: Need, applied: Applied) -> bool
     !(applied.states.len() < need.of(reference.component.set.len()))
 }
 
-fn judge_applying(need: Need, replica: u8, lost: ReplicaSet, head: Head, applied: Applied) -> Verdict
+fn judge_applying(
+    need: Need,
+    replica: u8,
+    lost: ReplicaSet,
+    head: Head,
+    applied: Applied,
+) -> Verdict
     ensures { λ v. ⌜ v ≡ applying-verdict need replica (lost .0) head applied ⌝ }
 {
     if is_need_met(need, applied) {
@@ -128,17 +145,27 @@ fn judge_applying(need: Need, replica: u8, lost: ReplicaSet, head: Head, applied
     if applied.sources.is_empty() {
         return Verdict::Closes;
     }
-    let possible = applied.states.union(possible_senders(replica, lost, head, applied));
+    let possible = applied
+        .states
+        .union(possible_senders(replica, lost, head, applied));
     if possible.len() < need.of(asked(applied)) {
         return Verdict::Closes;
     }
     Verdict::Stays
 }
 
-fn judge_entering<R: QuorumRule>(rule: &R, lost: ReplicaSet, head: Head, entered: Entered) -> Verdict
+fn judge_entering<R: QuorumRule>(
+    rule: &R,
+    lost: ReplicaSet,
+    head: Head,
+    entered: Entered,
+) -> Verdict
     ensures { λ v. ⌜ v ≡ entering-verdict (carries (now (rule .entry))) (lost .0) head entered ⌝ }
 {
-    let Reference { component, survivors } = entered.reference;
+    let Reference {
+        component,
+        survivors,
+    } = entered.reference;
     let missing = unheard(head, survivors, entered.members, entered.newcomers);
     if missing.is_empty() {
         let heard = entered.members.intersection(survivors);
@@ -215,7 +242,13 @@ fn judge_stage<R: QuorumRule>(rule: &R, need: Need, replica: u8, page: &Page, ro
 }
 
 // What the open head of a page and row comes to.
-pub(crate) fn judge<R: QuorumRule>(rule: &R, need: Need, replica: u8, page: &Page, row: &Row) -> Verdict
+pub(crate) fn judge<R: QuorumRule>(
+    rule: &R,
+    need: Need,
+    replica: u8,
+    page: &Page,
+    row: &Row,
+) -> Verdict
     ensures { λ v. ⌜ v ≡ verdict-of (carries (now (rule .entry))) need replica (now (page .entry)) (now (row .entry)) ⌝ }
 {
     judge_stage(rule, need, replica, page, row)

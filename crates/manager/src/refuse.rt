@@ -86,7 +86,11 @@ fn is_at_highest(component: Option<View>) -> bool
 fn check_announcement(replica: u8, page: &Page, row: &Row, head: Head) -> Result<(), Fault>
     ensures { λ r. ⌜ r ≡ allowed (announcement-refusal replica (now (page .entry)) (now (row .entry)) head) ⌝ }
 {
-    refuse_if(!head.set.contains(replica), Reason::ViewWithoutReplica, replica)?;
+    refuse_if(
+        !head.set.contains(replica),
+        Reason::ViewWithoutReplica,
+        replica,
+    )?;
     refuse_if(is_open(&row.stage), Reason::HeadOpen, replica)?;
     refuse_if(head.stamp.0 <= page.top.0, Reason::StampNotAbove, replica)?;
     let exhausted = matches!(page.mode, Mode::Normal) && is_at_highest(page.component);
@@ -120,7 +124,12 @@ fn check_head(replica: u8, row: &Row, message: &Message) -> Result<(), Fault>
     refuse_if(wrong, Reason::WrongParty, replica)
 }
 
-pub(crate) fn check_delivery(replica: u8, page: &Page, row: &Row, message: &Message) -> Result<(), Fault>
+pub(crate) fn check_delivery(
+    replica: u8,
+    page: &Page,
+    row: &Row,
+    message: &Message,
+) -> Result<(), Fault>
     ensures test { λ r. ⌜ r ≡ allowed (delivery-refusal replica (now (page .entry)) (now (row .entry)) (now (message .entry))) ⌝ }
     ensures within { λ r. ⌜ made r (λ _. replica < 16) ⌝ }
     ensures sender { λ r. ⌜ made r (λ _. now (message .entry) .sender < 16) ⌝ }

@@ -87,7 +87,13 @@ fn begin_round<R: QuorumRule>(
 }
 
 // The head is recorded without gathering, and judged.
-fn record_at_once<R: QuorumRule>(rule: &R, need: Need, replica: u8, page: &mut Page, row: &mut Row) -> Answer
+fn record_at_once<R: QuorumRule>(
+    rule: &R,
+    need: Need,
+    replica: u8,
+    page: &mut Page,
+    row: &mut Row,
+) -> Answer
     ensures answer { λ a. ⌜ a ≡ judged-again (carries (now (rule .entry))) need replica None (entry-of replica (now (page .entry)) (now (row .entry))) .answer ⌝ }
     ensures page { λ _. ⌜ now (page .exit) ≡ judged-again (carries (now (rule .entry))) need replica None (entry-of replica (now (page .entry)) (now (row .entry))) .page ⌝ }
     ensures row { λ _. ⌜ now (row .exit) ≡ judged-again (carries (now (rule .entry))) need replica None (entry-of replica (now (page .entry)) (now (row .entry))) .row ⌝ }

@@ -235,7 +235,12 @@ fn stage_keeps_rules(replica: u8, page: &Page, row: &Row) -> bool
     match &row.stage {
         Stage::Idle => idle_keeps_rules(row.up, row.lost, page.mode),
         Stage::Gathering(head, gathered) => gathering_keeps_rules(replica, page, *head, gathered),
-        Stage::Confirming(head, confirmed) => confirming_keeps_rules(replica, page, *head, confirmed),
+        Stage::Confirming(head, confirmed) => confirming_keeps_rules(
+            replica,
+            page,
+            *head,
+            confirmed,
+        ),
         Stage::Applying(head, applied) => applying_keeps_rules(replica, page, *head, applied),
         Stage::Entering(head, entered) => entering_keeps_rules(replica, page, *head, entered),
         Stage::Round(head, reports) => round_keeps_rules(replica, page, *head, reports),
@@ -247,6 +252,7 @@ impl Row {
     pub fn keeps_rules(&self, replica: u8, page: &Page) -> bool
         ensures { λ b. ⌜ b ≡ row-keeps replica (now (page .entry)) (now (self .entry)) ⌝ }
     {
-        survivors_keep_rules(self.survivors, page.component) && stage_keeps_rules(replica, page, self)
+        survivors_keep_rules(self.survivors, page.component)
+            && stage_keeps_rules(replica, page, self)
     }
 }
