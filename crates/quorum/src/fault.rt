@@ -1,6 +1,7 @@
 // Why a call is refused: the fault that all layers share.
 ghost use mathlib.Core.Path.{_≡_};
 ghost use Rattle.quorum.specs.Faults.{reason-number};
+ghost use Rattle.quorum.specs.declared.fault.Failure.the-variants.{Refused};
 use std::fmt;
 
 // The layer in which a fault arose. It is kept on the way up.
@@ -94,6 +95,15 @@ pub struct Fault {
 pub enum Failure {
     Refused(Fault),
     NoMemory,
+}
+
+// A refusal of a lower layer comes up as it is, with its layer.
+pub impl From<Fault> for Failure as FailureFromFault {
+    ghost converts = { λ e r. r ≡ Refused e };
+
+    fn from(fault: Fault) -> Failure {
+        Failure::Refused(fault)
+    }
 }
 
 pub impl fmt::Display for Layer as LayerDisplay {

@@ -15,6 +15,7 @@ pub use count::CountQuorum;
 pub use count::CountRule;
 pub use fault::Failure;
 pub use fault::FailureDisplay;
+pub use fault::FailureFromFault;
 pub use fault::Fault;
 pub use fault::FaultDisplay;
 pub use fault::Layer;
