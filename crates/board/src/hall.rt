@@ -1,4 +1,8 @@
 // The state of a session: the floor's rule and pages, and how many calls were accepted and refused.
+ghost use mathlib.Core.Path.{_≡_};
+ghost use lib.ListN.{replicate};
+ghost use Rattle.std.specs.Results.{Cases};
+ghost use Rattle.stores.specs.Kept.{fresh};
 use super::show::ModeDisplay;
 use super::show::PageDisplay;
 use super::show::Shown;
@@ -66,13 +70,18 @@ impl Hall {
     }
 
     // A new floor has fresh pages.
-    fn open(&mut self, rule: ChosenRule) {
+    fn open(&mut self, rule: ChosenRule)
+        ensures rule { λ _. ⌜ now (self .exit) .rule ≡ rule ⌝ }
+        ensures pages { λ _. ⌜ now (self .exit) .pages .pages ≡ replicate 16 fresh ⌝ }
+    {
         self.rule = rule;
         self.pages = HeldPages::new();
     }
 
     // A new floor with the weight rule; the old floor stays where a weight is zero.
-    fn weigh(&mut self, weights: [u8; 16]) -> Result<(), Fault> {
+    fn weigh(&mut self, weights: [u8; 16]) -> Result<(), Fault>
+        ensures { λ r. ⌜ Cases r (λ _. now (self .exit) .pages .pages ≡ replicate 16 fresh) (λ _. now (self .exit) ≡ now (self .entry)) ⌝ }
+    {
         self.open(ChosenRule::Weight(WeightRule::new(weights)?));
         Ok(())
     }
