@@ -1,5 +1,6 @@
 // Reads a hall's script from standard input, carries out each line, and prints what came of it and an account.
 mod hall;
+mod show;
 
 use hall::Hall;
 use script::parse;
