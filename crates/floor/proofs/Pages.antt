@@ -26,7 +26,7 @@ use Rattle.stores.specs.Kept.{fresh, page-at}
 use Rattle.stores.specs.Rules.{keeps-rules}
 use Rattle.stores.specs.declared.page.Page.{Page}
 use Rattle.stores.specs.declared.view.View.{View}
-use Rattle.floor.specs.Founding.{is-waiting, is-fresh, nameless, nameless-if, founding-refusal, founding-page, Founded-pages}
+use Rattle.runs.specs.Founding.{is-waiting, is-fresh, nameless, nameless-if, founding-refusal, founding-page, Founded-pages}
 
 -- a member's page keeps the rules
 pub founding-keeps : (v : View) (r : ℕ) → has (v .set .0) r ≡ true → v .number .0 ≤ 1000000000 → keeps-rules r (founding-page v) ≡ true

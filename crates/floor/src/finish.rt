@@ -9,7 +9,7 @@ ghost use Rattle.std.specs.Results.{Cases, isOk};
 ghost use Rattle.stores.specs.Kept.{Spent};
 ghost use Rattle.stores.specs.Rules.{keeps-rules};
 ghost use Rattle.std.specs.Vec.{made};
-ghost use Rattle.floor.specs.World.{listed, floor-refusal, Roomed, Posted, unit-of};
+ghost use Rattle.runs.specs.World.{listed, floor-refusal, Roomed, Posted, unit-of};
 use super::floor::Floor;
 use manager::Answer;
 use quorum::Failure;

@@ -8,7 +8,7 @@ ghost use Rattle.manager.specs.Calls.{empty-row, allowed};
 ghost use Rattle.std.specs.Of.Vec.{vec-items};
 ghost use Rattle.std.specs.Vec.{made, refused};
 ghost use Rattle.stores.specs.Kept.{page-at};
-ghost use Rattle.floor.specs.Founding.{row-at, founding-refusal, Founding};
+ghost use Rattle.runs.specs.Founding.{row-at, founding-refusal, Founding};
 use super::founding::check_founding;
 use super::founding::founding_rows;
 use super::founding::write_founding;

@@ -9,7 +9,7 @@ ghost use Rattle.quorum.specs.Below.{any};
 ghost use Rattle.quorum.specs.Members.{has};
 ghost use Rattle.std.specs.declared.result.Result.the-variants.{Ok};
 ghost use Rattle.stores.specs.Kept.{page-at};
-ghost use Rattle.floor.specs.Founding.{row-at, is-fresh, nameless, nameless-if, founding-refusal, founding-page, founding-row, Founded-pages, Founded-rows};
+ghost use Rattle.runs.specs.Founding.{row-at, is-fresh, nameless, nameless-if, founding-refusal, founding-page, founding-row, Founded-pages, Founded-rows};
 use quorum::Fault;
 use quorum::Layer;
 use quorum::Reason;

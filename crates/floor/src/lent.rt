@@ -3,7 +3,7 @@ ghost use mathlib.Core.Path.{_≡_};
 ghost use Prim.Native.Nat.{_<_};
 ghost use lib.ListN.{set};
 ghost use Rattle.manager.specs.Calls.{viewed, answer-of, page-left, row-left};
-ghost use Rattle.floor.specs.Founding.{row-at};
+ghost use Rattle.runs.specs.Founding.{row-at};
 use super::floor::Floor;
 use manager::Answer;
 use quorum::Fault;

@@ -1,8 +1,8 @@
 // The floor: sixteen replicas over one store.
+mod calls;
 mod finish;
 mod floor;
 mod founding;
 mod lent;
-mod work;
 
 pub use floor::Floor;

@@ -1,6 +1,6 @@
 // What follows from a message that is heard.
 #[derive(Clone, Copy)]
-pub(crate) enum Hearing {
+pub enum Hearing {
     // The head is judged.
     Heard,
     // The replica's own Report is posted, and the head is judged.

@@ -16,5 +16,7 @@ pub use calls::lose;
 pub use calls::start;
 pub use calls::stop;
 pub use calls::view;
+pub use hearing::Hearing;
 pub use need::Need;
 pub use refuse::check_message;
+pub use verdict::Verdict;

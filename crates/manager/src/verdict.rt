@@ -3,7 +3,7 @@ use rounds::Outcome;
 use stores::View;
 
 #[derive(Clone, Copy)]
-pub(crate) enum Verdict {
+pub enum Verdict {
     // The head stays open.
     Stays,
     // The head is recorded.

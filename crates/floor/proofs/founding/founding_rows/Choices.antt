@@ -1,7 +1,7 @@
 use mathlib.Core.Path.{_≡_}
 use Prim.Native.Nat.{ℕ, _<_}
 use lib.ListN.{length}
-use Rattle.floor.specs.Founding.{row-at, founding-row}
+use Rattle.runs.specs.Founding.{row-at, founding-row}
 use Rattle.floor.proofs.founding.founding_rows.Given as given
 
 abbrev pub Inv-loop-replica : given.InvT-loop-replica

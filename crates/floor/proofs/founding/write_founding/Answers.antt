@@ -8,7 +8,7 @@ use Rattle.quorum.specs.Members.{has}
 use native.Mathlib.Omega.{arith}
 use Rattle.stores.specs.Rules.{keeps-rules}
 use Rattle.stores.specs.declared.page.Page.{Page}
-use Rattle.floor.specs.Founding.{Founded-pages}
+use Rattle.runs.specs.Founding.{Founded-pages}
 use Rattle.floor.proofs.Pages.{founding-keeps, founded-none, founded-write, founded-skip}
 use Rattle.floor.proofs.founding.write_founding.Needs as need
 use Rattle.floor.proofs.founding.write_founding.Needs.{then-contains·in-Continue-write, else-contains}

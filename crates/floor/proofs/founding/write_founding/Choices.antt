@@ -1,5 +1,5 @@
 use Prim.Native.Nat.{_+_, _≤_}
-use Rattle.floor.specs.Founding.{Founded-pages}
+use Rattle.runs.specs.Founding.{Founded-pages}
 use Rattle.floor.proofs.founding.write_founding.Given as given
 
 -- each write uses at most one place

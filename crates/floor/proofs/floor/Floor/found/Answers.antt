@@ -1,7 +1,7 @@
 use mathlib.Core.List.{List}
 use mathlib.Core.Path.{refl, sym, subst}
 use Rattle.rows.specs.declared.row.Row.{Row}
-use Rattle.floor.specs.Founding.{Founded-rows}
+use Rattle.runs.specs.Founding.{Founded-rows}
 use Rattle.floor.proofs.Pages.{accepted-fresh, founded-all}
 use Rattle.floor.proofs.floor.Floor.found.Needs as need
 

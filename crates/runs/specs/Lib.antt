@@ -1,2 +1,3 @@
 pub mod Founding
 pub mod World
+pub mod Steps

@@ -10,17 +10,17 @@ use Rattle.std.specs.declared.option.Option.{Option}
 use Rattle.std.specs.declared.option.Option.the-variants.{Some, None}
 use Rattle.std.specs.declared.result.Result.{Result}
 use Rattle.std.specs.declared.result.Result.the-variants.{Ok, Err}
+use Rattle.quorum.specs.Below.{or-else}
 use Rattle.quorum.specs.declared.fault.Failure.{Failure}
 use Rattle.quorum.specs.declared.fault.Failure.the-variants.{Refused, NoMemory}
 use Rattle.quorum.specs.declared.fault.Fault.{Fault}
 use Rattle.quorum.specs.declared.fault.Layer.the-variants.{Floor}
 use Rattle.quorum.specs.declared.fault.Reason.{Reason}
-use Rattle.quorum.specs.declared.fault.Reason.the-variants.{NoSuchReplica, WrongPower, NoSuchMessage, PostFull, AgainstRules}
-use Rattle.manager.specs.Calls.{refusal, viewed, delivered, lost-at, stopped-at, started-at, empty-row}
+use Rattle.quorum.specs.declared.fault.Reason.the-variants.{NoSuchReplica, WrongPower, NoSuchMessage, PostFull}
+use Rattle.manager.specs.Calls.{message-refusal, viewed, delivered, lost-at, stopped-at, started-at, empty-row}
 use Rattle.manager.specs.Effects.{Effect}
 use Rattle.manager.specs.declared.answer.Answer.{Answer}
 use Rattle.manager.specs.declared.need.Need.{Need}
-use Rattle.rows.specs.Messages.{message-keeps}
 use Rattle.rows.specs.declared.message.Body.the-variants.{Abort}
 use Rattle.rows.specs.declared.message.Message.{Message}
 use Rattle.rows.specs.declared.message.Posts.{Posts}
@@ -30,9 +30,9 @@ use Rattle.stores.specs.Kept.{page-at, Spent, no-place}
 use Rattle.stores.specs.Views.{head}
 use Rattle.stores.specs.declared.page.Page.{Page}
 use Rattle.stores.specs.declared.view.Head.{Head}
-use Rattle.floor.specs.Founding.{row-at}
-use Rattle.floor.specs.declared.work.Work.{Work}
-use Rattle.floor.specs.declared.work.Work.the-variants.{View, Deliver, Loss, Start}
+use Rattle.runs.specs.Founding.{row-at}
+use Rattle.runs.specs.declared.work.Work.{Work}
+use Rattle.runs.specs.declared.work.Work.the-variants.{View, Deliver, Loss, Start}
 
 -- all that a call sees and changes
 pub record World : Type 0 where
@@ -53,13 +53,33 @@ replica-of (Start r) = r
 abbrev pub floor-refusal : Reason → ℕ → Fault
 floor-refusal reason r = record { reason = reason; replica = Some r; layer = Floor }
 
+abbrev pub refused-if : Bool → Reason → ℕ → Option Fault
+refused-if b reason r = cond b (Some (floor-refusal reason r)) None
+
 -- refused, or what comes after
-abbrev pub unless : Bool → Fault → Result Effect Fault → Result Effect Fault
-unless b fault rest = cond b (Err fault) rest
+abbrev pub unless : Option Fault → Result Effect Fault → Result Effect Fault
+unless None rest = rest
+unless (Some fault) rest = Err fault
 
 -- the message at an index of the post
 abbrev pub message-at : List Message → ℕ → Option Message
 message-at post i = cond (ltb i (length post)) (Some (getD post i (record { sender = 0; head = head 0 0; body = Abort }))) None
+
+-- a replica above 15; one that is down, or at a start up
+abbrev pub up-test : List Row → ℕ → Option Fault
+up-test rows r = or-else (refused-if (leb 16 r) NoSuchReplica r) (refused-if (not (row-at rows r .up)) WrongPower r)
+
+abbrev pub down-test : List Row → ℕ → Option Fault
+down-test rows r = or-else (refused-if (leb 16 r) NoSuchReplica r) (refused-if (row-at rows r .up) WrongPower r)
+
+-- of a loss also the lost one above 15
+abbrev pub loss-test : List Row → ℕ → ℕ → Option Fault
+loss-test rows r q = or-else (refused-if (leb 16 r) NoSuchReplica r) (or-else (refused-if (leb 16 q) NoSuchReplica q) (refused-if (not (row-at rows r .up)) WrongPower r))
+
+-- a message against the rules comes first, an index past the post after the replica's refusals
+abbrev pub delivery-test : List Row → ℕ → Option Message → Option Fault
+delivery-test rows r None = or-else (up-test rows r) (Some (floor-refusal NoSuchMessage r))
+delivery-test rows r (Some m) = or-else (message-refusal r m) (up-test rows r)
 
 -- ---- what a call does, or why it is refused: the floor's refusals and the manager's
 module _ (f : ℕ → ℕ → Bool) (w : World) where
@@ -69,23 +89,15 @@ module _ (f : ℕ → ℕ → Bool) (w : World) where
   abbrev pub row-of : ℕ → Row
   row-of r = row-at (w .rows) r
 
-  -- a replica above 15; one that is down
-  abbrev pub asked-up : ℕ → Result Effect Fault → Result Effect Fault
-  asked-up r rest = unless (leb 16 r) (floor-refusal NoSuchReplica r) (unless (not (row-of r .up)) (floor-refusal WrongPower r) rest)
-
-  -- a message against the rules comes first, an index past the post after the replica's refusals
-  abbrev pub asked-delivery : ℕ → Option Message → Result Effect Fault
-  asked-delivery r None = asked-up r (Err (floor-refusal NoSuchMessage r))
-  asked-delivery r (Some m) = unless (not (message-keeps m)) (refusal AgainstRules r) (asked-up r (delivered f (w .need) r (page-of r) (row-of r) m))
+  abbrev pub delivered-or-not : ℕ → Option Message → Result Effect Fault
+  delivered-or-not r None = Err (floor-refusal NoSuchMessage r)
+  delivered-or-not r (Some m) = delivered f (w .need) r (page-of r) (row-of r) m
 
   abbrev pub asked : Work → Result Effect Fault
-  asked (View r h) = asked-up r (viewed f (w .need) r (page-of r) (row-of r) h)
-  asked (Deliver r i) = asked-delivery r (message-at (w .post) i)
-  asked (Loss r q) =
-      unless (leb 16 r) (floor-refusal NoSuchReplica r)
-      (unless (leb 16 q) (floor-refusal NoSuchReplica q)
-      (unless (not (row-of r .up)) (floor-refusal WrongPower r) (lost-at f (w .need) r (page-of r) (row-of r) q)))
-  asked (Start r) = unless (leb 16 r) (floor-refusal NoSuchReplica r) (unless (row-of r .up) (floor-refusal WrongPower r) (started-at r (page-of r) (row-of r)))
+  asked (View r h) = unless (up-test (w .rows) r) (viewed f (w .need) r (page-of r) (row-of r) h)
+  asked (Deliver r i) = unless (delivery-test (w .rows) r (message-at (w .post) i)) (delivered-or-not r (message-at (w .post) i))
+  asked (Loss r q) = unless (loss-test (w .rows) r q) (lost-at f (w .need) r (page-of r) (row-of r) q)
+  asked (Start r) = unless (down-test (w .rows) r) (started-at r (page-of r) (row-of r))
 
   -- a view or delivery wants two free places in the post of 65,536
   abbrev pub full : Work → Bool
@@ -97,7 +109,7 @@ module _ (f : ℕ → ℕ → Bool) (w : World) where
   -- the post's room and the store's place are asked for last
   abbrev pub placed : Work → Result Effect Fault → Result Effect Fault
   placed k (Err fault) = Err fault
-  placed k (Ok e) = unless (full k) (floor-refusal PostFull (replica-of k)) (unless (eqb (w .places) 0) (no-place (replica-of k)) (Ok e))
+  placed k (Ok e) = unless (or-else (refused-if (full k) PostFull (replica-of k)) (cond (eqb (w .places) 0) (Some (no-place (replica-of k))) None)) (Ok e)
 
   unfoldable pub ruled : Work → Result Effect Fault
   ruled k = placed k (asked k)
@@ -154,8 +166,3 @@ pub record Broken (before after : World) (r : ℕ) (p : Page) : Type 0 where
   pub post-is : after .post ≡ before .post
   pub places-are : Spent (before .places) (after .places)
   pub need-is : after .need ≡ before .need
-
--- a cut is refused as the call itself would be
-abbrev pub Was-cut : (ℕ → ℕ → Bool) → World → Work → Result Unit Fault → World → Type 0
-Was-cut f w k (Ok _) v = (e : Effect) × (ruled f w k ≡ Ok e) × Broken w v (replica-of k) (e .page)
-Was-cut f w k (Err fault) v = (ruled f w k ≡ Err fault) × Same w v

@@ -1,0 +1,10 @@
+pub mod Subsets
+pub mod Pages
+pub mod Rows
+pub mod Settled
+pub mod Judged
+pub mod Recording
+pub mod Hearing
+pub mod TakingUp
+pub mod Accepted
+pub mod Calls
