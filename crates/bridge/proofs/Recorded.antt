@@ -37,7 +37,7 @@ use Rattle.manager.specs.declared.verdict.Verdict.the-variants.{Stays, Records,
 use Rattle.safety.specs.Moves.{Move, Chain, Settlement}
 use Rattle.safety.specs.Moves.Chain.{go}
 use Rattle.safety.specs.Moves.Move.{member-records, newcomer-records}
-use Rattle.safety.specs.Replicas.{Node, node, number}
+use Rattle.safety.specs.Replicas.{Phase, Node, node, number}
 use Rattle.safety.specs.Replicas as Moves
 use Rattle.safety.specs.Replicas.Message.{recorded-from}
 use Rattle.safety.specs.Replicas.Phase.{confirming, applying, entering}
@@ -67,6 +67,10 @@ carried-posts r p w posts Closes = refl
 carried-posts r p w posts Forgets = refl
 carried-posts r p w posts (Ends o v) = settling-posts r p w posts o v
 
+-- a replica that has recorded the head h under the number n
+abbrev recorded-node : Page → Bool → ℕ → Option Number → Head → Phase → Node
+recorded-node p normal n mark h phase = node normal (p .top) mark (p .component) (Some (recorded n (h .set .0) (h .stamp .0))) (under h phase)
+
 -- the number after n, if there is one
 next-cases : (P : Option Number → Type 0) (n : Number) → P None → ((k : ℕ) → k ≡ suc (n .0) → P (Some (number k))) → P (next-of n)
 next-cases P n a b = cond-both (ltb (n .0) 1000000000) (Some (number (n .0 + 1))) None P (λ _. b (n .0 + 1) (add-one (n .0))) (λ _. a)
@@ -87,18 +91,15 @@ module _ (carries : ℕ → ℕ → Bool) (grows : Grows carries) (meets : Meets
     -- ---- a member
     member-moves : (h : Head) (g : Gathered) (v : View) → p .mode ≡ Normal → p .component ≡ Some v → (n : ℕ) → n ≡ suc (v .number .0) →
         Move post r (node-of p (in-stage (Gathering h g) w))
-        (node (is-normal (p .mode) && w .up) (p .top) (Some (raised (p .mark) n)) (p .component) (Some (recorded n (h .set .0) (h .stamp .0))) (under h (confirming (either (g .members .0) (single r)))))
+        (recorded-node p (is-normal (p .mode) && w .up) n (Some (raised (p .mark) n)) h (confirming (either (g .members .0) (single r))))
         (recorded-from r h (number n) ∷ [])
     member-moves h g v m i n e =
         let more = either (g .members .0) (single r) in
         let x : Node = node-of p (in-stage (Gathering h g) w) in
-        subst
-        (λ k.
-        Move post r x (node (is-normal (p .mode) && w .up) (p .top) (Some (raised (p .mark) k)) (p .component) (Some (recorded k (h .set .0) (h .stamp .0))) (under h (confirming more))) (recorded-from r h (number k) ∷ []))
-        (sym e)
-        (subst
-        (λ o.
-        Move post r x (node (is-normal (p .mode) && w .up) (p .top) o (p .component) (Some (recorded (suc (v .number .0)) (h .set .0) (h .stamp .0))) (under h (confirming more))) (recorded-from r h (number (suc (v .number .0))) ∷ []))
+        let normal = is-normal (p .mode) && w .up in
+        let n' = suc (v .number .0) in
+        subst (λ k. Move post r x (recorded-node p normal k (Some (raised (p .mark) k)) h (confirming more)) (recorded-from r h (number k) ∷ [])) (sym e)
+        (subst (λ o. Move post r x (recorded-node p normal n' o h (confirming more)) (recorded-from r h (number n') ∷ []))
         (raised-is (p .mark) (suc (v .number .0)))
         (member-records h v (g .members .0) more (and-from (is-normal (p .mode)) (w .up) (ap is-normal m) up) refl i (adds-one (g .members .0) r)))
 
@@ -111,14 +112,11 @@ module _ (carries : ℕ → ℕ → Bool) (grows : Grows carries) (meets : Meets
     -- ---- a newcomer
     newcomer-moves : (h : Head) (a : Applied) (x : Reference) → a .reference ≡ Some x → p .component ≡ None → (n : ℕ) → n ≡ suc (x .component .number .0) →
         Move post r (node-of p (in-stage (Applying h a) w))
-        (node false (p .top) (Some (raised (p .mark) n)) (p .component) (Some (recorded n (h .set .0) (h .stamp .0))) (under h (entering (x .component) 0))) []
+        (recorded-node p false n (Some (raised (p .mark) n)) h (entering (x .component) 0)) []
     newcomer-moves h a x f i n e =
         let y : Node = node-of p (in-stage (Applying h a) w) in
-        subst
-        (λ k. Move post r y (node false (p .top) (Some (raised (p .mark) k)) (p .component) (Some (recorded k (h .set .0) (h .stamp .0))) (under h (entering (x .component) 0))) [])
-        (sym e)
-        (subst
-        (λ o. Move post r y (node false (p .top) o (p .component) (Some (recorded (suc (x .component .number .0)) (h .set .0) (h .stamp .0))) (under h (entering (x .component) 0))) [])
+        subst (λ k. Move post r y (recorded-node p false k (Some (raised (p .mark) k)) h (entering (x .component) 0)) []) (sym e)
+        (subst (λ o. Move post r y (recorded-node p false (suc (x .component .number .0)) o h (entering (x .component) 0)) [])
         (raised-is (p .mark) (suc (x .component .number .0)))
         (newcomer-records h (x .component) 0 (ap (λ o. under h (applying (seen-reference o))) f) i nobody-there))
 

@@ -1,5 +1,6 @@
 // The end of a call that the manager has accepted: room in the post, the page's write, the messages.
-ghost use mathlib.Core.Bool.{true, false, cond};
+ghost use mathlib.Core.Bool.{true, false, _&&_, cond};
+ghost use lib.Dec.{leb};
 ghost use mathlib.Core.List.{[], _++_};
 ghost use mathlib.Core.Path.{_≡_};
 ghost use Prim.Native.Nat.{_+_, _<_, _≤_};
@@ -51,13 +52,13 @@ pub(crate) fn refusal(reason: Reason, replica: u8) -> Fault
     }
 }
 
-// Room for two messages in a post of at most 65,536.
-fn make_room(post: &mut Vec<Message>, replica: u8) -> Result<(), Failure>
-    ensures test { λ r. ⌜ Roomed (length (vec-items (now (post .entry)))) replica r ⌝ }
+// Memory for two messages and, where the call may post, room for them in a post of at most 65,536.
+fn make_room(post: &mut Vec<Message>, replica: u8, limited: bool) -> Result<(), Failure>
+    ensures test { λ r. ⌜ Roomed (limited && leb 65535 (length (vec-items (now (post .entry))))) replica r ⌝ }
     ensures room { λ r. ⌜ made r (λ _. vec-len (now (post .exit)) + 2 ≤ vec-cap (now (post .exit))) ⌝ }
     ensures items { λ _. ⌜ vec-items (now (post .exit)) ≡ vec-items (now (post .entry)) ⌝ }
 {
-    if post.len() >= 65_535 {
+    if limited && post.len() >= 65_535 {
         return Err(Failure::Refused(refusal(Reason::PostFull, replica)));
     }
     match post.reserve(2) {
@@ -74,16 +75,17 @@ impl<R: QuorumRule + Copy, S: Breakable + Drop> Floor<R, S> {
         replica: u8,
         page: Page,
         posts: Posts,
+        limited: bool,
     ) -> Result<(), Failure>
         requires within { ⌜ replica < 16 ⌝ }
         requires kept { ⌜ keeps-rules replica page ≡ true ⌝ }
-        ensures test { λ r. ⌜ Posted (length (vec-items (now (post .entry)))) (S·Store .places (now (self .entry) .store)) replica r ⌝ }
+        ensures test { λ r. ⌜ Posted (limited && leb 65535 (length (vec-items (now (post .entry))))) (S·Store .places (now (self .entry) .store)) replica r ⌝ }
         ensures pages { λ r. ⌜ S·Store .pages (now (self .exit) .store) ≡ cond (isOk r) (set (S·Store .pages (now (self .entry) .store)) replica page) (S·Store .pages (now (self .entry) .store)) ⌝ }
         ensures places { λ r. ⌜ Cases r (λ _. Spent (S·Store .places (now (self .entry) .store)) (S·Store .places (now (self .exit) .store))) (λ _. S·Store .places (now (self .exit) .store) ≡ S·Store .places (now (self .entry) .store)) ⌝ }
         ensures post { λ r. ⌜ vec-items (now (post .exit)) ≡ vec-items (now (post .entry)) ++ cond (isOk r) (listed posts) [] ⌝ }
         ensures rest { λ _. ⌜ (now (self .exit) .rule ≡ now (self .entry) .rule) × (now (self .exit) .table ≡ now (self .entry) .table) × (now (self .exit) .need ≡ now (self .entry) .need) ⌝ }
     {
-        make_room(post, replica)?;
+        make_room(post, replica, limited)?;
         self.store.write(replica, page)?;
         append(post, posts);
         Ok(())
@@ -107,10 +109,11 @@ impl<R: QuorumRule + Copy, S: Breakable + Drop> Floor<R, S> {
         page: Page,
         before: Row,
         answer: Answer,
+        limited: bool,
     ) -> Result<Answer, Failure>
         requires within { ⌜ replica < 16 ⌝ }
         requires kept { ⌜ keeps-rules replica page ≡ true ⌝ }
-        ensures test { λ r. ⌜ Posted (length (vec-items (now (post .entry)))) (S·Store .places (now (self .entry) .store)) replica (unit-of r) ⌝ }
+        ensures test { λ r. ⌜ Posted (limited && leb 65535 (length (vec-items (now (post .entry))))) (S·Store .places (now (self .entry) .store)) replica (unit-of r) ⌝ }
         ensures answer { λ r. ⌜ made r (λ a. a ≡ answer) ⌝ }
         ensures pages { λ r. ⌜ S·Store .pages (now (self .exit) .store) ≡ cond (isOk r) (set (S·Store .pages (now (self .entry) .store)) replica page) (S·Store .pages (now (self .entry) .store)) ⌝ }
         ensures places { λ r. ⌜ Cases r (λ _. Spent (S·Store .places (now (self .entry) .store)) (S·Store .places (now (self .exit) .store))) (λ _. S·Store .places (now (self .exit) .store) ≡ S·Store .places (now (self .entry) .store)) ⌝ }
@@ -118,7 +121,7 @@ impl<R: QuorumRule + Copy, S: Breakable + Drop> Floor<R, S> {
         ensures rows { λ r. ⌜ now (self .exit) .table .rows ≡ cond (isOk r) (now (self .entry) .table .rows) (set (now (self .entry) .table .rows) replica before) ⌝ }
         ensures rest { λ _. ⌜ (now (self .exit) .rule ≡ now (self .entry) .rule) × (now (self .exit) .need ≡ now (self .entry) .need) ⌝ }
     {
-        match self.write_and_post(post, replica, page, answer.posts) {
+        match self.write_and_post(post, replica, page, answer.posts, limited) {
             Ok(()) => Ok(answer),
             Err(failure) => {
                 self.put_back(replica, before);

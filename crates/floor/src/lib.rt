@@ -4,5 +4,6 @@ mod finish;
 mod floor;
 mod founding;
 mod lent;
+mod task;
 
 pub use floor::Floor;

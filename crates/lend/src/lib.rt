@@ -31,7 +31,8 @@ impl<T> Table<T> {
     // The element of a replica; the caller has seen that there is one.
     pub fn row(&self, r: usize) -> &T
         requires { ⌜ r < 16 ⌝ }
-        ensures { λ q. ⌜ ((d : T) → now q ≡ getD (now (self .entry) .rows) r d) ⌝ }
+        ensures value { λ q. ⌜ ((d : T) → now q ≡ getD (now (self .entry) .rows) r d) ⌝ }
+        ensures sixteen { λ _. ⌜ length (now (self .entry) .rows) ≡ 16 ⌝ }
     {
         let a = &self.rows;
         let s = &a[..];

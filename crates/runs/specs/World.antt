@@ -120,17 +120,17 @@ listed Nothing = []
 listed (One m) = m ∷ []
 listed (Two m n) = m ∷ n ∷ []
 
--- of a post of n messages: room, no room, or no memory though there is room
-abbrev pub Roomed : ℕ → ℕ → Result Unit Failure → Type 0
-Roomed n r (Ok _) = leb 65535 n ≡ false
-Roomed n r (Err (Refused fault)) = (leb 65535 n ≡ true) × (fault ≡ floor-refusal PostFull r)
-Roomed n r (Err NoMemory) = leb 65535 n ≡ false
+-- of a post that is full or not: room, no room, or no memory though there is room
+abbrev pub Roomed : Bool → ℕ → Result Unit Failure → Type 0
+Roomed full r (Ok _) = full ≡ false
+Roomed full r (Err (Refused fault)) = (full ≡ true) × (fault ≡ floor-refusal PostFull r)
+Roomed full r (Err NoMemory) = full ≡ false
 
 -- the same with a place in the store asked for after it
-abbrev pub Posted : ℕ → ℕ → ℕ → Result Unit Failure → Type 0
-Posted n places r (Ok _) = (leb 65535 n ≡ false) × (0 < places)
-Posted n places r (Err (Refused fault)) = ((leb 65535 n ≡ true) × (fault ≡ floor-refusal PostFull r)) ⊎ ((leb 65535 n ≡ false) × (places ≡ 0) × (fault ≡ no-place r))
-Posted n places r (Err NoMemory) = leb 65535 n ≡ false
+abbrev pub Posted : Bool → ℕ → ℕ → Result Unit Failure → Type 0
+Posted full places r (Ok _) = (full ≡ false) × (0 < places)
+Posted full places r (Err (Refused fault)) = ((full ≡ true) × (fault ≡ floor-refusal PostFull r)) ⊎ ((full ≡ false) × (places ≡ 0) × (fault ≡ no-place r))
+Posted full places r (Err NoMemory) = full ≡ false
 
 -- whether it was, and not what is answered
 abbrev pub unit-of : Result Answer Failure → Result Unit Failure
