@@ -19,21 +19,22 @@ use Rattle.quorum.specs.declared.fault.Failure.{Failure}
 use Rattle.quorum.specs.declared.fault.Failure.the-variants.{Refused, NoMemory}
 use Rattle.quorum.specs.declared.fault.Fault.{Fault}
 use Rattle.quorum.specs.declared.fault.Reason.the-variants.{PostFull, NoSuchMessage}
-use Rattle.manager.specs.Calls.{answer-of, page-left, row-left, viewed, delivered, lost-at, started-at}
-use Rattle.manager.specs.Effects.{Effect}
+use Rattle.manager.specs.Calls.{allowed, answer-of, page-left, row-left, viewed, delivered, lost-at, started-at, stopped-at, call-refusal, unless-refused, empty-row}
+use Rattle.manager.specs.Effects.{Effect, effect}
 use Rattle.manager.specs.declared.answer.Answer.{Answer}
 use Rattle.manager.specs.declared.need.Need.{Need}
 use Rattle.laws.specs.Laws.{Keeps}
 use Rattle.laws.proofs.Calls.{viewed-keeps, delivered-keeps, lost-keeps, started-keeps}
 use Rattle.rows.specs.declared.message.Message.{Message}
+use Rattle.rows.specs.declared.message.Posts.the-variants.{Nothing}
 use Rattle.rows.specs.declared.row.Row.{Row}
 use Rattle.runs.specs.Founding.{row-at}
-use Rattle.runs.specs.World.{World, replica-of, floor-refusal, unless, message-at, up-test, down-test, loss-test, delivery-test, page-of, row-of, delivered-or-not, asked, full, placed, ruled, listed, Posted, unit-of, Changed, Same, Did}
+use Rattle.runs.specs.World.{World, replica-of, floor-refusal, unless, message-at, up-test, down-test, loss-test, delivery-test, page-of, row-of, delivered-or-not, asked, full, placed, ruled, listed, Posted, unit-of, Changed, Same, Broken, Did}
 use Rattle.runs.specs.declared.work.Work.{Work}
 use Rattle.runs.specs.declared.work.Work.the-variants as works
 use Rattle.stores.specs.Kept.{Spent, no-place}
 use Rattle.stores.specs.declared.page.Page.{Page}
-use Rattle.floor.specs.Tasks.{managed, task-unless, delivery-task, tasked, wants-room}
+use Rattle.floor.specs.Tasks.{managed, task-unless, delivery-task, tasked, wants-room, as-failure}
 use Rattle.floor.specs.declared.task.Task.{Task}
 use Rattle.floor.specs.declared.task.Task.the-variants as tasks
 
@@ -171,3 +172,53 @@ module _ (f : ℕ → ℕ → Bool) (w v : World) (k : Work) (e : Effect) (accep
 
   pub finishes-did : (r : ℕ) (limited : Bool) (a : Result Answer Failure) → r ≡ replica-of k → limited ≡ wants-room k → Finishes w v r limited e a → Did f w k a v
   finishes-did r limited a h l t = finished-did a (finishes-at w v k r limited e a h l t)
+
+-- ---- the end of a call that is cut off
+pub record Breaks (w v : World) (r : ℕ) (limited : Bool) (e : Effect) (a : Result Unit Fault) : Type 0 where
+  pub tested : Posted (limited && leb 65535 (length (w .post))) (w .places) r (as-failure a)
+  pub pages-are : Cases a (λ _. (v .pages ≡ w .pages) ⊎ (v .pages ≡ set (w .pages) r (e .page))) (λ _. v .pages ≡ w .pages)
+  pub places-are : Cases a (λ _. Spent (w .places) (v .places)) (λ _. v .places ≡ w .places)
+  pub rows-are : v .rows ≡ cond (isOk a) (set (w .rows) r (empty-row false)) (w .rows)
+  pub post-is : v .post ≡ w .post
+  pub need-is : v .need ≡ w .need
+
+breaks-at : (w v : World) (k : Work) (r : ℕ) (limited : Bool) (e : Effect) (a : Result Unit Fault) → r ≡ replica-of k → limited ≡ wants-room k → Breaks w v r limited e a → Breaks w v (replica-of k) (wants-room k) e a
+breaks-at w v k r limited e a h l t = subst (λ (b : Bool). Breaks w v (replica-of k) b e a) l (subst (λ (q : ℕ). Breaks w v q limited e a) h t)
+
+module _ (f : ℕ → ℕ → Bool) (w v : World) (k : Work) (e : Effect) (accepted : asked f w k ≡ Ok e) (r : ℕ) (limited : Bool) (at : r ≡ replica-of k) (room : limited ≡ wants-room k) where
+  pub break-refused : (x : Fault) → Breaks w v r limited e (Err x) → (ruled f w k ≡ Err x) × Same w v
+  break-refused x b =
+      let t = breaks-at w v k r limited e (Err x) at room b in
+      (
+        ⊎-elim
+        (λ h. ruled-by f w k e accepted ∙ ap (λ o. unless o (Ok e)) (last-full f w k _ (h .0)) ∙ ap (λ z. Err z) (sym (h .1)))
+        (λ h. ruled-by f w k e accepted ∙ ap (λ o. unless o (Ok e)) (last-place f w k _ (h .0) (h .1)) ∙ ap (λ z. Err z) (sym (h .2)))
+        (t .tested),
+        record { pages-are = t .pages-are; rows-are = t .rows-are; post-is = t .post-is; places-are = t .places-are; need-is = t .need-is },
+      )
+
+  pub break-done : (u : Unit) → Breaks w v r limited e (Ok u) → (ruled f w k ≡ Ok e) × Broken w v (replica-of k) (e .page)
+  break-done u b =
+      let t = breaks-at w v k r limited e (Ok u) at room b in
+      (
+        ruled-by f w k e accepted ∙ ap (λ o. unless o (Ok e)) (last-none f w k _ (t .tested .0) (t .tested .1)),
+        record { pages-are = t .pages-are; rows-are = t .rows-are; post-is = t .post-is; places-are = t .places-are; need-is = t .need-is },
+      )
+
+-- ---- a stop
+refused-or-not : (o : Option Fault) (a e : Effect) → unless-refused o a ≡ Ok e → a ≡ e
+refused-or-not None a e h = cc
+refused-or-not (Some x) a e h = absurd (let z : _≡_ {A = ℕ} 0 1 = cc in omega arith)
+
+-- an accepted stop leaves the row down and empty
+pub stop-is : (r : ℕ) (p : Page) (w : Row) (e : Effect) → stopped-at r p w ≡ Ok e → effect p (empty-row false) Nothing ≡ e
+unfolding stopped-at
+stop-is r p w e h = refused-or-not (call-refusal r p w) (effect p (empty-row false) Nothing) e h
+
+pub test-refuses : (o : Option Fault) (x : Fault) (rest : Result Effect Fault) → Err x ≡ allowed o → unless o rest ≡ Err x
+test-refuses None x rest e = absurd (let z : _≡_ {A = ℕ} 0 1 = cc in omega arith)
+test-refuses (Some y) x rest e = let same : y ≡ x = cc in ap (λ z. Err z) same
+
+pub test-allows : (o : Option Fault) (u : Unit) (rest : Result Effect Fault) → Ok u ≡ allowed o → unless o rest ≡ rest
+test-allows None u rest e = refl
+test-allows (Some y) u rest e = absurd (let z : _≡_ {A = ℕ} 0 1 = cc in omega arith)

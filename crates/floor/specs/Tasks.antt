@@ -7,6 +7,8 @@ use Rattle.std.specs.declared.option.Option.{Option}
 use Rattle.std.specs.declared.option.Option.the-variants.{Some, None}
 use Rattle.std.specs.declared.result.Result.{Result}
 use Rattle.std.specs.declared.result.Result.the-variants.{Ok, Err}
+use Rattle.quorum.specs.declared.fault.Failure.{Failure}
+use Rattle.quorum.specs.declared.fault.Failure.the-variants.{Refused}
 use Rattle.quorum.specs.declared.fault.Fault.{Fault}
 use Rattle.quorum.specs.declared.fault.Reason.the-variants.{NoSuchMessage}
 use Rattle.manager.specs.Calls.{viewed, delivered, lost-at, started-at}
@@ -51,3 +53,8 @@ wants-room (works.View r h) = true
 wants-room (works.Deliver r i) = true
 wants-room (works.Loss r q) = false
 wants-room (works.Start r) = false
+
+-- a refusal as the floor's callers see it
+abbrev pub as-failure : Result Unit Fault → Result Unit Failure
+as-failure (Ok u) = Ok u
+as-failure (Err fault) = Err (Refused fault)

@@ -131,7 +131,7 @@ impl<R: QuorumRule + Copy, S: Breakable + Drop> Floor<R, S> {
     }
 
     // The floor's own refusals, or the manager's task.
-    fn task(&self, post: &Vec<Message>, work: Work) -> Result<Task, Fault>
+    pub(crate) fn task(&self, post: &Vec<Message>, work: Work) -> Result<Task, Fault>
         ensures test { λ t. ⌜ t ≡ tasked (now (self .entry) .table .rows) (vec-items (now (post .entry))) work ⌝ }
         ensures within { λ t. ⌜ made t (λ _. replica-of work < 16) ⌝ }
     {

@@ -92,7 +92,7 @@ impl<R: QuorumRule + Copy, S: Breakable + Drop> Floor<R, S> {
     }
 
     // A row is put back as it was.
-    fn put_back(&mut self, replica: u8, before: Row)
+    pub(crate) fn put_back(&mut self, replica: u8, before: Row)
         requires { ⌜ replica < 16 ⌝ }
         ensures rows { λ _. ⌜ now (self .exit) .table .rows ≡ set (now (self .entry) .table .rows) replica before ⌝ }
         ensures rest { λ _. ⌜ (now (self .exit) .rule ≡ now (self .entry) .rule) × (now (self .exit) .store ≡ now (self .entry) .store) × (now (self .exit) .need ≡ now (self .entry) .need) ⌝ }

@@ -1,5 +1,6 @@
 // The floor: sixteen replicas over one store.
 mod calls;
+mod cut;
 mod finish;
 mod floor;
 mod founding;
