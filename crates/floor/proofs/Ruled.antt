@@ -188,19 +188,17 @@ breaks-at w v k r limited e a h l t = subst (λ (b : Bool). Breaks w v (replica-
 module _ (f : ℕ → ℕ → Bool) (w v : World) (k : Work) (e : Effect) (accepted : asked f w k ≡ Ok e) (r : ℕ) (limited : Bool) (at : r ≡ replica-of k) (room : limited ≡ wants-room k) where
   pub break-refused : (x : Fault) → Breaks w v r limited e (Err x) → (ruled f w k ≡ Err x) × Same w v
   break-refused x b =
-      let t = breaks-at w v k r limited e (Err x) at room b in
-      (
+      let t = breaks-at w v k r limited e (Err x) at room b in (
         ⊎-elim
-        (λ h. ruled-by f w k e accepted ∙ ap (λ o. unless o (Ok e)) (last-full f w k _ (h .0)) ∙ ap (λ z. Err z) (sym (h .1)))
-        (λ h. ruled-by f w k e accepted ∙ ap (λ o. unless o (Ok e)) (last-place f w k _ (h .0) (h .1)) ∙ ap (λ z. Err z) (sym (h .2)))
-        (t .tested),
+            (λ h. ruled-by f w k e accepted ∙ ap (λ o. unless o (Ok e)) (last-full f w k _ (h .0)) ∙ ap (λ z. Err z) (sym (h .1)))
+            (λ h. ruled-by f w k e accepted ∙ ap (λ o. unless o (Ok e)) (last-place f w k _ (h .0) (h .1)) ∙ ap (λ z. Err z) (sym (h .2)))
+            (t .tested),
         record { pages-are = t .pages-are; rows-are = t .rows-are; post-is = t .post-is; places-are = t .places-are; need-is = t .need-is },
       )
 
   pub break-done : (u : Unit) → Breaks w v r limited e (Ok u) → (ruled f w k ≡ Ok e) × Broken w v (replica-of k) (e .page)
   break-done u b =
-      let t = breaks-at w v k r limited e (Ok u) at room b in
-      (
+      let t = breaks-at w v k r limited e (Ok u) at room b in (
         ruled-by f w k e accepted ∙ ap (λ o. unless o (Ok e)) (last-none f w k _ (t .tested .0) (t .tested .1)),
         record { pages-are = t .pages-are; rows-are = t .rows-are; post-is = t .post-is; places-are = t .places-are; need-is = t .need-is },
       )

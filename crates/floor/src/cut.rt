@@ -45,7 +45,14 @@ pub(crate) fn quiet() -> Answer
 
 impl<R: QuorumRule + Copy, S: Breakable + Drop> Floor<R, S> {
     // The page's write is broken off; refused as the write would be.
-    fn cut_page(&mut self, post: &Vec<Message>, replica: u8, page: Page, limited: bool, n: u64) -> Result<(), Fault>
+    fn cut_page(
+        &mut self,
+        post: &Vec<Message>,
+        replica: u8,
+        page: Page,
+        limited: bool,
+        n: u64,
+    ) -> Result<(), Fault>
         requires within { ⌜ replica < 16 ⌝ }
         requires kept { ⌜ keeps-rules replica page ≡ true ⌝ }
         ensures test { λ r. ⌜ Posted (limited && leb 65535 (length (vec-items (now (post .entry))))) (S·Store .places (now (self .entry) .store)) replica (as-failure r) ⌝ }
@@ -90,7 +97,12 @@ impl<R: QuorumRule + Copy, S: Breakable + Drop> Floor<R, S> {
     }
 
     // The call is refused as it would be whole; accepted, nothing is posted and the row is stopped.
-    pub(crate) fn cut_off(&mut self, post: &Vec<Message>, work: Work, n: u64) -> Result<Answer, Failure>
+    pub(crate) fn cut_off(
+        &mut self,
+        post: &Vec<Message>,
+        work: Work,
+        n: u64,
+    ) -> Result<Answer, Failure>
         ensures cut { λ a. ⌜ «Cut-off» (R·QuorumRule .carries (now (self .entry) .rule)) (record { pages = S·Store .pages (now (self .entry) .store); places = S·Store .places (now (self .entry) .store); rows = now (self .entry) .table .rows; post = vec-items (now (post .entry)); need = now (self .entry) .need }) work a (record { pages = S·Store .pages (now (self .exit) .store); places = S·Store .places (now (self .exit) .store); rows = now (self .exit) .table .rows; post = vec-items (now (post .entry)); need = now (self .exit) .need }) ⌝ }
         ensures rule { λ _. ⌜ now (self .exit) .rule ≡ now (self .entry) .rule ⌝ }
     {

@@ -1,4 +1,5 @@
 // The floor: sixteen replicas over one store.
+mod apply;
 mod calls;
 mod cut;
 mod finish;

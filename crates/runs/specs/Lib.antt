@@ -1,3 +1,5 @@
 pub mod Founding
 pub mod World
 pub mod Steps
+pub mod Runs
+pub mod Findings

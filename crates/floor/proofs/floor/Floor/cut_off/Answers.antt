@@ -42,18 +42,21 @@ returns-in-Break-lend g c =
     let m : Result Effect Fault = managed f (w .need) r (c .read-page .result) (row-at (w .rows) r) t in
     let at : r ≡ replica-of k = c .replica-of-replica .ensures in
     let same : m ≡ managed f (w .need) (replica-of k) (page-of f w (replica-of k)) (row-of f w (replica-of k)) t =
-      ap (λ p. managed f (w .need) r p (row-at (w .rows) r) t) (c .read-page .ensures) ∙ ap (λ q. managed f (w .need) q (page-at (w .pages) q) (row-at (w .rows) q) t) at in
+    ap (λ p. managed f (w .need) r p (row-at (w .rows) r) t) (c .read-page .ensures) ∙ ap (λ q. managed f (w .need) q (page-at (w .pages) q) (row-at (w .rows) q) t) at in
     let asks = asked-managed f w k t (c .in-Continue-task .ensures tt .test) in
     let no = managed-refused m _ (c .in-Break-lend .ensures tt .answer) in
     let e = err-from-errBy (c .from-residual-in-Break-lend .result) (c .from-residual-in-Break-lend .ensures .1) in
     rw (e .1, e .2) (record {
-      cut = (ruled-refused f w k _ (asks ∙ sym same ∙ no), record {
-        pages-are = ap (g .S·Store .pages) (c .lend .ensures .rest .1);
-        rows-are = c .lend .ensures .rows ∙ ap (λ v. set (w .rows) r (row-left (row-at (w .rows) r) v)) no ∙ set-getD (w .rows) r _;
-        post-is = refl;
-        places-are = ap (g .S·Store .places) (c .lend .ensures .rest .1);
-        need-is = c .lend .ensures .rest .2;
-      });
+      cut = (
+        ruled-refused f w k _ (asks ∙ sym same ∙ no),
+        record {
+          pages-are = ap (g .S·Store .pages) (c .lend .ensures .rest .1);
+          rows-are = c .lend .ensures .rows ∙ ap (λ v. set (w .rows) r (row-left (row-at (w .rows) r) v)) no ∙ set-getD (w .rows) r _;
+          post-is = refl;
+          places-are = ap (g .S·Store .places) (c .lend .ensures .rest .1);
+          need-is = c .lend .ensures .rest .2;
+        },
+      );
       rule = c .lend .ensures .rest .0;
     })
 
@@ -81,7 +84,7 @@ returns-in-Break-break-off g c =
     let m : Result Effect Fault = managed f (w .need) r (c .read-page .result) (row-at (w .rows) r) t in
     let at : r ≡ replica-of k = c .replica-of-replica .ensures in
     let same : m ≡ managed f (w .need) (replica-of k) (page-of f w (replica-of k)) (row-of f w (replica-of k)) t =
-      ap (λ p. managed f (w .need) r p (row-at (w .rows) r) t) (c .read-page .ensures) ∙ ap (λ q. managed f (w .need) q (page-at (w .pages) q) (row-at (w .rows) q) t) at in
+    ap (λ p. managed f (w .need) r p (row-at (w .rows) r) t) (c .read-page .ensures) ∙ ap (λ q. managed f (w .need) q (page-at (w .pages) q) (row-at (w .rows) q) t) at in
     let asks = asked-managed f w k t (c .in-Continue-task .ensures tt .test) in
     let yes = managed-accepted m (c .in-Continue-lend .field-0) (c .in-Continue-lend .ensures tt .answer) in
     let e = yes .0 in
@@ -114,7 +117,7 @@ returns g c =
     let m : Result Effect Fault = managed f (w .need) r (c .read-page .result) (row-at (w .rows) r) t in
     let at : r ≡ replica-of k = c .replica-of-replica .ensures in
     let same : m ≡ managed f (w .need) (replica-of k) (page-of f w (replica-of k)) (row-of f w (replica-of k)) t =
-      ap (λ p. managed f (w .need) r p (row-at (w .rows) r) t) (c .read-page .ensures) ∙ ap (λ q. managed f (w .need) q (page-at (w .pages) q) (row-at (w .rows) q) t) at in
+    ap (λ p. managed f (w .need) r p (row-at (w .rows) r) t) (c .read-page .ensures) ∙ ap (λ q. managed f (w .need) q (page-at (w .pages) q) (row-at (w .rows) q) t) at in
     let asks = asked-managed f w k t (c .in-Continue-task .ensures tt .test) in
     let yes = managed-accepted m (c .in-Continue-lend .field-0) (c .in-Continue-lend .ensures tt .answer) in
     let e = yes .0 in
@@ -124,12 +127,12 @@ returns g c =
     let before = c .row-before .result .now in
     let told = c .in-Continue-break-off .ensures tt in
     let done = break-done f w v k e (asks ∙ sym same ∙ yes .1) r (c .wants-room .result) at (c .wants-room .ensures) tt (record {
-        tested = subst (λ (s : g .S .Denot). Posted (c .wants-room .result && leb 65535 (length (w .post))) (g .S·Store .places s) r (as-failure (Ok tt))) store (told .test);
-        pages-are = subst (λ (s : g .S .Denot). (v .pages ≡ g .S·Store .pages s) ⊎ (v .pages ≡ set (g .S·Store .pages s) r (e .page))) store
+      tested = subst (λ (s : g .S .Denot). Posted (c .wants-room .result && leb 65535 (length (w .post))) (g .S·Store .places s) r (as-failure (Ok tt))) store (told .test);
+      pages-are = subst (λ (s : g .S .Denot). (v .pages ≡ g .S·Store .pages s) ⊎ (v .pages ≡ set (g .S·Store .pages s) r (e .page))) store
           (subst (λ (p : Page). (v .pages ≡ g .S·Store .pages (c .lend .last .self .store)) ⊎ (v .pages ≡ set (g .S·Store .pages (c .lend .last .self .store)) r p)) page (told .pages));
-        places-are = subst (λ (s : g .S .Denot). Spent (g .S·Store .places s) (v .places)) store (told .places);
-        rows-are = told .rows ∙ ap (λ x. set x r (empty-row false)) rows ∙ set-set (w .rows) r (e .row) (empty-row false);
-        post-is = refl;
-        need-is = told .rest .1 ∙ c .lend .ensures .rest .2;
-      }) in
+      places-are = subst (λ (s : g .S .Denot). Spent (g .S·Store .places s) (v .places)) store (told .places);
+      rows-are = told .rows ∙ ap (λ x. set x r (empty-row false)) rows ∙ set-set (w .rows) r (e .row) (empty-row false);
+      post-is = refl;
+      need-is = told .rest .1 ∙ c .lend .ensures .rest .2;
+    }) in
     record { cut = (e, done .0, c .quiet .ensures, done .1); rule = told .rest .0 ∙ c .lend .ensures .rest .0 }

@@ -19,13 +19,16 @@ returns-in-Break-answer g c =
     let same = ap (λ p. stopped-at r p (row-at rows r)) (c .read-page .ensures) in
     let e = err-from-errBy (c .from-residual-in-Break-answer .result) (c .from-residual-in-Break-answer .ensures .1) in
     rw (e .1, e .2) (record {
-      stopped = (test-allows (up-test rows r) _ _ (c .in-Continue-check-up .ensures tt .test) ∙ sym same ∙ no, record {
-        pages-are = ap (g .S·Store .pages) (c .lend-stop .ensures .rest .1);
-        rows-are = c .lend-stop .ensures .rows ∙ ap (λ x. set rows r (row-left (row-at rows r) x)) no ∙ set-getD rows r _;
-        post-is = refl;
-        places-are = ap (g .S·Store .places) (c .lend-stop .ensures .rest .1);
-        need-is = c .lend-stop .ensures .rest .2;
-      });
+      stopped = (
+        test-allows (up-test rows r) _ _ (c .in-Continue-check-up .ensures tt .test) ∙ sym same ∙ no,
+        record {
+          pages-are = ap (g .S·Store .pages) (c .lend-stop .ensures .rest .1);
+          rows-are = c .lend-stop .ensures .rows ∙ ap (λ x. set rows r (row-left (row-at rows r) x)) no ∙ set-getD rows r _;
+          post-is = refl;
+          places-are = ap (g .S·Store .places) (c .lend-stop .ensures .rest .1);
+          need-is = c .lend-stop .ensures .rest .2;
+        },
+      );
       rule = c .lend-stop .ensures .rest .0;
     })
 
@@ -39,12 +42,17 @@ returns g c =
     let is = stop-is r (c .read-page .result) (row-at rows r) e (yes .1) in
     let same = ap (λ p. stopped-at r p (row-at rows r)) (c .read-page .ensures) in
     record {
-      stopped = (e, test-allows (up-test rows r) _ _ (c .in-Continue-check-up .ensures tt .test) ∙ sym same ∙ yes .1, yes .2 ∙ sym (ap (λ x. x .answer) is), record {
-        pages-are = ap (g .S·Store .pages) (c .lend-stop .ensures .rest .1);
-        rows-are = c .lend-stop .ensures .rows ∙ ap (λ x. set rows r (row-left (row-at rows r) x)) (yes .1) ∙ ap (λ x. set rows r (x .row)) (sym is);
-        post-is = refl;
-        places-are = ap (g .S·Store .places) (c .lend-stop .ensures .rest .1);
-        need-is = c .lend-stop .ensures .rest .2;
-      });
+      stopped = (
+        e,
+        test-allows (up-test rows r) _ _ (c .in-Continue-check-up .ensures tt .test) ∙ sym same ∙ yes .1,
+        yes .2 ∙ sym (ap (λ x. x .answer) is),
+        record {
+          pages-are = ap (g .S·Store .pages) (c .lend-stop .ensures .rest .1);
+          rows-are = c .lend-stop .ensures .rows ∙ ap (λ x. set rows r (row-left (row-at rows r) x)) (yes .1) ∙ ap (λ x. set rows r (x .row)) (sym is);
+          post-is = refl;
+          places-are = ap (g .S·Store .places) (c .lend-stop .ensures .rest .1);
+          need-is = c .lend-stop .ensures .rest .2;
+        },
+      );
       rule = c .lend-stop .ensures .rest .0;
     }
