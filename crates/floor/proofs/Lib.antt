@@ -1,2 +1,3 @@
 pub mod Pages
 pub mod Ruled
+pub mod Making

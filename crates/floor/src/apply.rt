@@ -25,7 +25,7 @@ impl<R: QuorumRule + Copy, S: Breakable + Drop> Floor<R, S> {
         self.step(post, call)
     }
 
-    fn step(&mut self, post: &mut Vec<Message>, call: Call) -> Result<Answer, Failure>
+    pub(crate) fn step(&mut self, post: &mut Vec<Message>, call: Call) -> Result<Answer, Failure>
         ensures step { λ a. ⌜ Step (R·QuorumRule .carries (now (self .entry) .rule)) (record { pages = S·Store .pages (now (self .entry) .store); places = S·Store .places (now (self .entry) .store); rows = now (self .entry) .table .rows; post = vec-items (now (post .entry)); need = now (self .entry) .need }) call a (record { pages = S·Store .pages (now (self .exit) .store); places = S·Store .places (now (self .exit) .store); rows = now (self .exit) .table .rows; post = vec-items (now (post .exit)); need = now (self .exit) .need }) ⌝ }
         ensures rule { λ _. ⌜ now (self .exit) .rule ≡ now (self .entry) .rule ⌝ }
     {

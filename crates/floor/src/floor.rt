@@ -5,6 +5,7 @@ ghost use lib.Dec.{ltb};
 ghost use lib.ListN.{replicate};
 ghost use Rattle.std.specs.declared.option.Option.the-variants.{Some, None};
 ghost use Rattle.manager.specs.Calls.{empty-row, allowed};
+ghost use Rattle.runs.specs.Runs.{Founded};
 ghost use Rattle.std.specs.Of.Vec.{vec-items};
 ghost use Rattle.std.specs.Vec.{made, refused};
 ghost use Rattle.stores.specs.Kept.{page-at};
@@ -93,6 +94,7 @@ impl<R: QuorumRule + Copy, S: Breakable + Drop> Floor<R, S> {
     pub fn found(&mut self, post: &mut Vec<Message>, view: View, need: Need) -> Result<(), Fault>
         ensures answer { λ r. ⌜ r ≡ allowed (founding-refusal view (S·Store .pages (now (self .entry) .store)) (S·Store .places (now (self .entry) .store))) ⌝ }
         ensures founded { λ r. ⌜ made r (λ _. Founding view need (S·Store .pages (now (self .exit) .store)) (now (self .exit) .table .rows) (now (self .exit) .need) (vec-items (now (post .exit)))) ⌝ }
+        ensures begins { λ r. ⌜ made r (λ _. Founded view (record { pages = S·Store .pages (now (self .exit) .store); places = S·Store .places (now (self .exit) .store); rows = now (self .exit) .table .rows; post = vec-items (now (post .exit)); need = now (self .exit) .need })) ⌝ }
         ensures rule { λ _. ⌜ now (self .exit) .rule ≡ now (self .entry) .rule ⌝ }
         ensures kept { λ r. ⌜ refused r (λ _. (now (self .exit) ≡ now (self .entry)) × (now (post .exit) ≡ now (post .entry))) ⌝ }
     {

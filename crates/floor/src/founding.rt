@@ -3,7 +3,7 @@ ghost use mathlib.Core.Bool.{true, false, not, _&&_, _||_, cond};
 ghost use mathlib.Core.Path.{_≡_};
 ghost use Prim.Native.Nat.{ℕ, _+_, _<_, _≤_};
 ghost use lib.Dec.{ltb};
-ghost use lib.ListN.{getD};
+ghost use lib.ListN.{getD, length};
 ghost use Rattle.manager.specs.Calls.{allowed};
 ghost use Rattle.quorum.specs.Below.{any};
 ghost use Rattle.quorum.specs.Members.{has};
@@ -101,7 +101,8 @@ fn founding_row(view: View, replica: u8) -> Row
 }
 
 pub(crate) fn founding_rows(view: View) -> [Row; 16]
-    ensures { λ rows. ⌜ Founded-rows view rows ⌝ }
+    ensures rows { λ rows. ⌜ Founded-rows view rows ⌝ }
+    ensures sixteen { λ rows. ⌜ length rows ≡ 16 ⌝ }
 {
     let mut rows = [founding_row(view, 0); 16];
     for replica in 0..16u8 {

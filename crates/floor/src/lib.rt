@@ -6,6 +6,7 @@ mod finish;
 mod floor;
 mod founding;
 mod lent;
+mod run;
 mod task;
 
 pub use floor::Floor;

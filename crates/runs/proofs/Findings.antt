@@ -1,23 +1,21 @@
 -- The findings of every run of a floor, from those of the moves, and of a run that goes on. Assumes nothing.
-use mathlib.Core.Path.{_≡_, refl, sym, ap, subst, _∙_}
+use mathlib.Core.Path.{_≡_, refl, sym, ap, _∙_}
 use mathlib.Core.Bool.{Bool}
 use mathlib.Core.List.{List, [], _∷_, _++_}
 use mathlib.Core.Logic.{_⊎_, inl, inr, ⊎-elim}
-use Prim.Native.Nat.{ℕ, suc, _<_, _≤_}
+use Prim.Native.Nat.{ℕ, _<_, _≤_}
 use Rattle.std.proofs.shelf.Tests.{cases-lt}
-use Rattle.std.specs.declared.option.Option.{Option}
-use Rattle.std.specs.declared.option.Option.the-variants.{Some, None}
+use Rattle.std.specs.declared.option.Option.the-variants.{Some}
 use Rattle.quorum.specs.Laws.{Grows, Meets}
 use Rattle.safety.proofs.Findings.{safe}
 use Rattle.safety.proofs.Marks.{none-some}
 use Rattle.safety.specs.Findings as Of-moves
 use Rattle.safety.specs.Runs as Moves
-use Rattle.stores.specs.Kept.{fresh, page-at}
+use Rattle.stores.specs.Kept.{page-at}
 use Rattle.stores.specs.declared.page.Page.{Page}
 use Rattle.stores.specs.declared.view.View.{View}
 use Rattle.runs.specs.Findings.{Installed, Predecessor, Findings, Safe-runs, Runs-safe, Safe-going-on, Safe-going-on-from, Goes-on-safe, Runs-on-safe}
 use Rattle.runs.specs.Runs.{Taken, Run, world-at, end-of, Founded}
-use Rattle.runs.specs.Steps.{Step}
 use Rattle.runs.specs.World.{World}
 use Rattle.runs.proofs.Carried.{Carried, carried}
 use Rattle.runs.proofs.Runs.{run-on, run-step}

@@ -1,10 +1,10 @@
 -- What the moves see of the messages that a call posts. Assumes nothing.
-use mathlib.Core.Path.{_≡_, refl, sym, ap, subst}
+use mathlib.Core.Path.{_≡_, subst}
 use mathlib.Core.List.{List, [], _∷_, _++_, append-nil}
 use mathlib.Core.Logic.{_⊎_, inl, inr, ⊎-elim}
 use Prim.Native.Nat.{ℕ}
 use native.Mathlib.Omega.{arith}
-use Rattle.bridge.specs.Seen.{seen-report, seen-body, seen-message, seen-post, formed-by}
+use Rattle.bridge.specs.Seen.{seen-body, seen-message, seen-post, formed-by}
 use Rattle.rounds.specs.declared.report.Report.{Report}
 use Rattle.rows.specs.declared.message.Body.{Body}
 use Rattle.rows.specs.declared.message.Body.the-variants.{State, Abort, Join, Recorded, Report as Reports}

@@ -1,22 +1,19 @@
 -- A founding leaves a world to start from. Assumes nothing.
-use mathlib.Core.Path.{_≡_, refl, sym, ap, subst, _∙_}
-use mathlib.Core.Bool.{Bool, true, false, cond}
+use mathlib.Core.Path.{_≡_, sym, ap, _∙_}
 use mathlib.Core.Logic.{_⊎_, inl, inr, ⊎-elim}
 use Prim.Native.Nat.{ℕ, _<_, _≤_}
 use Rattle.std.proofs.shelf.Tests.{cases-lt, cases-cond, cond-true}
-use Rattle.std.specs.declared.option.Option.{Option}
 use Rattle.std.specs.declared.option.Option.the-variants.{Some, None}
 use Rattle.quorum.specs.Members.{has}
 use Rattle.bridge.specs.Seen.{seen-stage, seen-post}
 use Rattle.rows.specs.declared.row.Row.{Row}
 use Rattle.rows.specs.declared.row.Stage.the-variants.{Idle}
 use Rattle.safety.proofs.Marks.{none-some, some-inj}
-use Rattle.safety.specs.Replicas.Row.{idle}
 use Rattle.safety.specs.Runs.{Started}
 use Rattle.stores.specs.Kept.{fresh, page-at}
 use Rattle.stores.specs.declared.page.Page.{Page}
 use Rattle.stores.specs.declared.view.View.{View}
-use Rattle.runs.specs.Founding.{row-at, founding-page, founding-row}
+use Rattle.runs.specs.Founding.{row-at, founding-page}
 use Rattle.runs.specs.Runs.{Founded}
 use Rattle.runs.specs.World.{World}
 use Rattle.runs.proofs.Seen.{world-of, Sixteen, past-pages, past-rows}

@@ -2,7 +2,7 @@
 use mathlib.Core.Path.{_≡_, refl, sym, ap, subst, _∙_}
 use mathlib.Core.Bool.{Bool, false, not}
 use mathlib.Core.List.{List, []}
-use mathlib.Core.Logic.{_⊎_, _≢_, inl, inr, ⊎-elim}
+use mathlib.Core.Logic.{_⊎_, inr, ⊎-elim}
 use Prim.Native.Nat.{ℕ, _<_}
 use lib.Dec.{leb}
 use lib.ListN.{length, set}
@@ -20,18 +20,16 @@ use Rattle.bridge.specs.Seen.{node-of, seen-post, formed-by, settlement-of}
 use Rattle.manager.specs.Calls.{empty-row, stopped-at}
 use Rattle.manager.specs.Effects.{Effect}
 use Rattle.manager.specs.declared.answer.Answer.{Answer}
-use Rattle.rows.specs.declared.row.Row.{Row}
-use Rattle.safety.specs.Moves.{Chain, Settlement, settlement}
+use Rattle.safety.specs.Moves.{Settlement, settlement}
 use Rattle.safety.specs.Moves.Chain.{rest, go}
 use Rattle.safety.specs.Moves.Move.{close}
 use Rattle.safety.specs.Replicas.{Node, leaving, In}
 use Rattle.safety.specs.Replicas as Replicas
 use Rattle.safety.specs.Replicas.Row.{idle}
 use Rattle.safety.specs.Runs as Moves
-use Rattle.safety.specs.Runs.{Turned, done}
+use Rattle.safety.specs.Runs.{done}
 use Rattle.safety.specs.Runs.Ended.{whole, cut-new, cut-old}
 use Rattle.stores.specs.Kept.{page-at}
-use Rattle.stores.specs.declared.page.Page.{Page}
 use Rattle.stores.specs.declared.view.Head.{Head}
 use Rattle.stores.specs.declared.view.View.{View}
 use Rattle.runs.specs.Findings.{Asks, head-under, Accepted, Forms-in, Settles-in}

@@ -24,7 +24,7 @@ use Rattle.stores.specs.declared.view.View.{View}
 use Rattle.runs.specs.Founding.{row-at}
 use Rattle.runs.specs.Runs.{Taken, Run, world-at, end-of, Of-call, Founded}
 use Rattle.runs.specs.Steps.{Step}
-use Rattle.runs.specs.World.{World, replica-of, ruled, listed}
+use Rattle.runs.specs.World.{World, ruled, listed}
 use Rattle.runs.specs.declared.work.Call.{Call}
 use Rattle.runs.specs.declared.work.Call.the-variants.{Whole, Cut, Stop}
 use Rattle.runs.specs.declared.work.Work.{Work}
@@ -43,7 +43,7 @@ head-under w (Deliver r i) = head-of (row-at (w .rows) r .stage)
 head-under w (Loss r q) = head-of (row-at (w .rows) r .stage)
 head-under w (Start r) = head-of (row-at (w .rows) r .stage)
 
--- Reports m of replica q under the head h
+-- the message by which replica q reports m under the head h
 abbrev pub report-from : ℕ → Head → Report → Message
 report-from q h m = record { sender = q; head = h; body = Reports m }
 
