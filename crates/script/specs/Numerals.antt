@@ -24,3 +24,8 @@ reads-on (Some n) (b ∷ bs) = reads-on (one-more n b) bs
 unfoldable pub reads : List ℕ → Option ℕ
 reads [] = None
 reads (b ∷ bs) = reads-on (Some 0) (b ∷ bs)
+
+-- a number where it is below a limit
+abbrev pub below : ℕ → Option ℕ → Option ℕ
+below limit None = None
+below limit (Some n) = cond (ltb n limit) (Some n) None

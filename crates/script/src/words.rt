@@ -39,3 +39,11 @@ pub fn first_word(text: &[u8]) -> Option<(&[u8], &[u8])> {
     }
     Some(from.split_at(end))
 }
+
+// Nothing follows.
+pub fn end(rest: &[u8]) -> Option<()> {
+    match first_word(rest) {
+        Some(_) => None,
+        None => Some(()),
+    }
+}
