@@ -58,6 +58,9 @@ impl Hall {
                 let made = self.weigh(weights);
                 self.tell(number, made, out)
             }
+            // Until the floor takes calls.
+            Command::Found(_, _, _) => writeln!(out, "{number}: not understood"),
+            Command::Call(_) => writeln!(out, "{number}: not understood"),
             Command::Carries(part, set) => {
                 if self.rule.carries(part, set) {
                     writeln!(out, "{number}: carries")

@@ -1,6 +1,13 @@
-// Views and pages as people read them.
+// Views, pages, messages and rows as people read them.
 use quorum::ReplicaSetDisplay;
+use rounds::Outcome;
+use rounds::Report;
+use rows::Body;
+use rows::Message;
+use rows::Part;
+use rows::Stage;
 use std::fmt;
+use stores::Head;
 use stores::Mode;
 use stores::Number;
 use stores::Page;
@@ -85,6 +92,108 @@ pub impl fmt::Display for Shown<Page> as PageDisplay {
     }
 }
 
+// A head: its stamp and its set, as in 40 {1,2,6}.
+pub impl fmt::Display for Shown<Head> as HeadDisplay {
+    fn fmt<W: fmt::Write>(&self, f: &mut fmt::Formatter<W>) -> fmt::Result {
+        let stamp = self.0.stamp.0;
+        let set = self.0.set;
+        write!(f, "{stamp} {set}")
+    }
+}
+
+pub impl fmt::Display for Shown<Part> as PartDisplay {
+    fn fmt<W: fmt::Write>(&self, f: &mut fmt::Formatter<W>) -> fmt::Result {
+        f.write_str(
+            match self.0 {
+                Part::Member => "member",
+                Part::Newcomer => "newcomer",
+            },
+        )
+    }
+}
+
+pub impl fmt::Display for Shown<Report> as ReportDisplay {
+    fn fmt<W: fmt::Write>(&self, f: &mut fmt::Formatter<W>) -> fmt::Result {
+        let mode = Shown(self.0.mode);
+        let mark = Shown(self.0.mark);
+        let component = Shown(self.0.component);
+        let recorded = Shown(self.0.recorded);
+        write!(
+            f,
+            "{mode}, mark {mark}, component {component}, recorded {recorded}"
+        )
+    }
+}
+
+// The kind of a message.
+fn kind(body: Body) -> &'static str {
+    match body {
+        Body::State(_, _) => "State",
+        Body::Abort => "Abort",
+        Body::Join => "Join",
+        Body::Recorded(_, _) => "Recorded",
+        Body::Report(_) => "Report",
+    }
+}
+
+// What a message adds to its kind, its sender and its head.
+pub impl fmt::Display for Shown<Body> as AddedDisplay {
+    fn fmt<W: fmt::Write>(&self, f: &mut fmt::Formatter<W>) -> fmt::Result {
+        match self.0 {
+            Body::State(component, survivors) => {
+                let component = Shown(component);
+                write!(f, ", component {component}, survivors {survivors}")
+            }
+            Body::Abort => Ok(()),
+            Body::Join => Ok(()),
+            Body::Recorded(Number(number), part) => {
+                let part = Shown(part);
+                write!(f, ", view {number} as {part}")
+            }
+            Body::Report(report) => {
+                let report = Shown(report);
+                write!(f, ", {report}")
+            }
+        }
+    }
+}
+
+// A message, as in Join from 6 under 40 {1,2,6}.
+pub impl fmt::Display for Shown<Message> as MessageDisplay {
+    fn fmt<W: fmt::Write>(&self, f: &mut fmt::Formatter<W>) -> fmt::Result {
+        let kind = kind(self.0.body);
+        let sender = self.0.sender;
+        let head = Shown(self.0.head);
+        let added = Shown(self.0.body);
+        write!(f, "{kind} from {sender} under {head}{added}")
+    }
+}
+
+// How a round ended, as in outcome 2 on view 7 {1,2,3}.
+pub impl fmt::Display for Shown<(Outcome, Option<View>)> as EndDisplay {
+    fn fmt<W: fmt::Write>(&self, f: &mut fmt::Formatter<W>) -> fmt::Result {
+        let (outcome, settled) = self.0;
+        let number = outcome.number();
+        let Some(view) = settled else {
+            return write!(f, "outcome {number}");
+        };
+        let view = Shown(view);
+        write!(f, "outcome {number} on view {view}")
+    }
+}
+
+// What a replica is at.
+pub fn stage_name(stage: Stage) -> &'static str {
+    match stage {
+        Stage::Idle => "idle",
+        Stage::Gathering(_, _) => "gathering",
+        Stage::Confirming(_, _) => "confirming",
+        Stage::Applying(_, _) => "applying",
+        Stage::Entering(_, _) => "entering",
+        Stage::Round(_, _) => "round",
+    }
+}
+
 #[cfg(test)]
 mod tests {
     use super::*;
@@ -120,5 +229,120 @@ mod tests {
             text.as_str(),
             "reconfiguration: top 41, mark 8, component 7 {1,2,3}, recorded 8 {1,2,6} stamp 40",
         )
+    }
+
+    fn view_seven() -> View {
+        View {
+            number: Number(7),
+            set: ReplicaSet(0b1110),
+        }
+    }
+
+    fn check_message(
+        rt: LibcRuntime,
+        sender: u8,
+        body: Body,
+        expected: &str,
+    ) -> Result<(), Fail> {
+        let head = Head {
+            stamp: Stamp(40),
+            set: ReplicaSet(0b100_0110),
+        };
+        let shown = Shown(Message { sender, head, body });
+        let text = format!(rt.alloc(), "{shown}")?;
+        check_eq(text.as_str(), expected)
+    }
+
+    #[test]
+    fn state(rt: LibcRuntime) -> Result<(), Fail> {
+        check_message(
+            rt,
+            1,
+            Body::State(view_seven(), ReplicaSet(0b110)),
+            "State from 1 under 40 {1,2,6}, component 7 {1,2,3}, survivors {1,2}",
+        )
+    }
+
+    #[test]
+    fn abort(rt: LibcRuntime) -> Result<(), Fail> {
+        check_message(rt, 1, Body::Abort, "Abort from 1 under 40 {1,2,6}")
+    }
+
+    #[test]
+    fn join(rt: LibcRuntime) -> Result<(), Fail> {
+        check_message(rt, 6, Body::Join, "Join from 6 under 40 {1,2,6}")
+    }
+
+    #[test]
+    fn recorded_as_newcomer(rt: LibcRuntime) -> Result<(), Fail> {
+        check_message(
+            rt,
+            6,
+            Body::Recorded(Number(8), Part::Newcomer),
+            "Recorded from 6 under 40 {1,2,6}, view 8 as newcomer",
+        )
+    }
+
+    #[test]
+    fn recorded_as_member(rt: LibcRuntime) -> Result<(), Fail> {
+        check_message(
+            rt,
+            1,
+            Body::Recorded(Number(8), Part::Member),
+            "Recorded from 1 under 40 {1,2,6}, view 8 as member",
+        )
+    }
+
+    #[test]
+    fn report(rt: LibcRuntime) -> Result<(), Fail> {
+        let next = View {
+            number: Number(8),
+            set: ReplicaSet(0b100_0110),
+        };
+        let report = Report {
+            mode: Mode::Reconfiguration,
+            mark: Some(Number(8)),
+            component: Some(view_seven()),
+            recorded: Some(Recorded {
+                view: next,
+                stamp: Stamp(39),
+            }),
+        };
+        check_message(
+            rt,
+            1,
+            Body::Report(report),
+            "Report from 1 under 40 {1,2,6}, reconfiguration, mark 8, component 7 {1,2,3}, recorded 8 {1,2,6} stamp 39",
+        )
+    }
+
+    #[test]
+    fn report_of_little(rt: LibcRuntime) -> Result<(), Fail> {
+        let report = Report {
+            mode: Mode::Normal,
+            mark: None,
+            component: None,
+            recorded: None,
+        };
+        check_message(
+            rt,
+            2,
+            Body::Report(report),
+            "Report from 2 under 40 {1,2,6}, normal, mark none, component none, recorded none",
+        )
+    }
+
+    #[test]
+    fn settled(rt: LibcRuntime) -> Result<(), Fail> {
+        let end = Shown((Outcome::SettledByClear, Some(view_seven())));
+        let text = format!(rt.alloc(), "{end}")?;
+        check_eq(text.as_str(), "outcome 2 on view 7 {1,2,3}")
+    }
+
+    #[test]
+    fn given_up(rt: LibcRuntime) -> Result<(), Fail> {
+        let end = Shown((Outcome::LostMember, None));
+        let text = format!(rt.alloc(), "{end}")?;
+        check_eq(text.as_str(), "outcome 4")
     }
 }

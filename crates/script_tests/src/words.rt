@@ -2,6 +2,8 @@
 use quorum::ReplicaSet;
 use script::members;
 use script::number;
+use script::number8;
+use script::number32;
 use std::test::*;
 
 fn check_number(word: &str, value: Option<u64>) -> Result<(), Fail> {
@@ -31,6 +33,18 @@ fn no_numbers() -> Result<(), Fail> {
     check_number("1_000", None)?;
     check_number("/", None)?;
     check_number(":", None)
+}
+
+#[test]
+fn narrow_numbers() -> Result<(), Fail> {
+    check_eq(number8(b"0"), Some(0))?;
+    check_eq(number8(b"0255"), Some(255))?;
+    check_eq(number8(b"256"), None)?;
+    check_eq(number8(b""), None)?;
+    check_eq(number8(b"18446744073709551616"), None)?;
+    check_eq(number32(b"4294967295"), Some(u32::MAX))?;
+    check_eq(number32(b"4294967296"), None)?;
+    check_eq(number32(b"-1"), None)
 }
 
 fn check_set(word: &str, bits: u16) -> Result<(), Fail> {
