@@ -1,5 +1,6 @@
 // Reads a hall's script from standard input, carries out each line, and prints what came of it and an account.
 mod hall;
+mod requests;
 mod show;
 
 use hall::Hall;
@@ -13,7 +14,7 @@ use std::io::Write;
 fn main(rt: LibcRuntime) -> io::Result<()> {
     let mut input = BufReader::new(rt.stdin());
     let mut output = BufWriter::new(rt.stdout());
-    let mut hall = Hall::new();
+    let mut hall = Hall::new(rt);
     let mut line = Vec::new(rt.alloc());
     for number in 1..u64::MAX {
         line.clear();

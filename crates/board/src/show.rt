@@ -182,6 +182,10 @@ pub impl fmt::Display for Shown<(Outcome, Option<View>)> as EndDisplay {
     }
 }
 
+pub fn power_name(up: bool) -> &'static str {
+    if up { "up" } else { "down" }
+}
+
 // What a replica is at.
 pub fn stage_name(stage: Stage) -> &'static str {
     match stage {
