@@ -190,12 +190,7 @@ impl Hall {
         }
     }
 
-    fn make_and_tell<W: Write>(
-        &mut self,
-        number: u64,
-        call: Call,
-        out: &mut W,
-    ) -> io::Result<()> {
+    fn make_and_tell<W: Write>(&mut self, number: u64, call: Call, out: &mut W) -> io::Result<()> {
         let first = self.post.len();
         match self.make(call) {
             Ok(answer) => {
@@ -279,12 +274,7 @@ fn is_view(held: Option<View>, view: View) -> bool {
 }
 
 // An accepted call: how a round ended, if one did, and what was posted, from this index of the post on.
-fn tell_answer<W: Write>(
-    number: u64,
-    first: usize,
-    answer: Answer,
-    out: &mut W,
-) -> io::Result<()> {
+fn tell_answer<W: Write>(number: u64, first: usize, answer: Answer, out: &mut W) -> io::Result<()> {
     match answer.ended {
         Some(end) => {
             let end = Shown(end);

@@ -242,12 +242,7 @@ mod tests {
         }
     }
 
-    fn check_message(
-        rt: LibcRuntime,
-        sender: u8,
-        body: Body,
-        expected: &str,
-    ) -> Result<(), Fail> {
+    fn check_message(rt: LibcRuntime, sender: u8, body: Body, expected: &str) -> Result<(), Fail> {
         let head = Head {
             stamp: Stamp(40),
             set: ReplicaSet(0b100_0110),

@@ -1,8 +1,8 @@
 // The commands of a script.
 use super::calls::Call;
 use super::calls::cut;
-use super::calls::stop;
 use super::calls::read_work;
+use super::calls::stop;
 use super::numerals::number8;
 use super::numerals::number32;
 use super::sets::members;

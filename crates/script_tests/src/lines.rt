@@ -114,7 +114,10 @@ fn operands() -> Result<(), Fail> {
 #[test]
 fn founding() -> Result<(), Fail> {
     check_kind("found {1,2,3} 7 one\n", "found one")?;
-    check_kind("found {} 4294967295 half # too high, but a number\n", "found half")?;
+    check_kind(
+        "found {} 4294967295 half # too high, but a number\n",
+        "found half",
+    )?;
     check_kind("found {1,2,3} 4294967296 one\n", "unknown")?;
     check_kind("found {1,2,3} one\n", "unknown")?;
     check_kind("found {1,2,3} 7\n", "unknown")?;
