@@ -51,7 +51,7 @@ impl<R: QuorumRule + Copy, S: Breakable + Drop> Floor<R, S> {
         calls: &[Call],
     ) -> Result<(), Fault>
         ensures answer { λ r. ⌜ r ≡ allowed (founding-refusal first (S·Store .pages (now (self .entry) .store)) (S·Store .places (now (self .entry) .store))) ⌝ }
-        ensures evening { λ r. ⌜ made r (λ _. Evening (R·QuorumRule .carries (now (self .entry) .rule)) first (record { pages = S·Store .pages (now (self .exit) .store); places = S·Store .places (now (self .exit) .store); rows = now (self .exit) .table .rows; post = vec-items (now (post .exit)); need = now (self .exit) .need }) (now (calls .entry))) ⌝ }
+        ensures evening { λ r. ⌜ made r (λ _. Evening (R·QuorumRule .carries (now (self .entry) .rule)) first need (record { pages = S·Store .pages (now (self .exit) .store); places = S·Store .places (now (self .exit) .store); rows = now (self .exit) .table .rows; post = vec-items (now (post .exit)); need = now (self .exit) .need }) (now (calls .entry))) ⌝ }
         ensures kept { λ r. ⌜ refused r (λ _. (now (self .exit) ≡ now (self .entry)) × (now (post .exit) ≡ now (post .entry))) ⌝ }
     {
         self.found(post, first, need)?;

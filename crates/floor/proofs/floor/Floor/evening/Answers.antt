@@ -14,6 +14,6 @@ returns g c =
     subst (λ (x : g .R .Denot). Found (g .R·QuorumRule .carries x) w v (c .args .calls .now)) (told .rule) (c .run .ensures .found) in
     record {
       answer = told .answer;
-      evening = record { founded = w; begins = told .begins; ran = found .ran; findings = found .findings (c .args .first) w [] (told .begins) tt refl };
+      evening = record { founded = w; begins = told .begins; needs = told .founded .need-is; ran = found .ran; findings = found .findings (c .args .first) w [] (told .begins) tt refl };
       kept = tt;
     }
