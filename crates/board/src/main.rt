@@ -1,4 +1,6 @@
 // Reads a hall's script from standard input, carries out each line, and prints what came of it and an account.
+#![tactic(auto)]
+
 mod hall;
 mod requests;
 mod show;

@@ -1,4 +1,6 @@
 // The floor: sixteen replicas over one store.
+#![tactic(auto)]
+
 mod apply;
 mod calls;
 mod cut;

@@ -1,5 +1,7 @@
 // The laws of the manager's calls, for every rule, page, row and argument. There is nothing to run here; each function carries a
 // theorem about the calls as they are defined.
+#![tactic(auto)]
+
 ghost use Rattle.laws.specs.Laws.{CallsKeep, CallsAdvance, ComponentsFollow, PostsFew, RefusalsLeave};
 
 // An accepted call leaves a page and row that keep the rules, and posts only messages that keep them.

@@ -1,4 +1,6 @@
 // A table of sixteen elements, one for each replica, which lends one of them to be changed.
+#![tactic(auto)]
+
 ghost use Rattle.std.specs.Prelude.{◌≡◌, ◌<◌, length, slice_index_or, slice_set};
 ghost use Rattle.std.specs.Borrow.{sem, follows};
 ghost use Rattle.lend.specs.contracts.Table.{the_row};

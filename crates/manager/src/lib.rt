@@ -1,4 +1,6 @@
 // The configuration manager of one replica: one page, one row, one message.
+#![tactic(auto)]
+
 mod answer;
 mod calls;
 mod effect;

@@ -1,11 +1,10 @@
 -- Membership in a set of bits. Assumes nothing.
-use Rattle.std.proofs.Common.{◌≡◌, ℕ, zero, suc, ◌+◌, ◌-◌, ◌*◌, ◌/◌, ◌%◌, ◌^◌, ◌<◌, ◌≤◌, Bool, true, false, cond, not, ◌&&◌, ◌||◌, eqb, ◌⊎◌, Decides, sym, refl, ap, ◌∙◌, ap₂, ⊎_elim, suc-le-suc, lt_of_lt_of_le, le_of_suc-le-suc, not-suc-le-zero, lt_of_le_of_lt, pow-suc, one-add, arith, pow_mono, shr-shr}
+use Rattle.std.proofs.Common.{◌≡◌, ℕ, zero, suc, ◌+◌, ◌-◌, ◌/◌, ◌%◌, ◌^◌, ◌<◌, ◌≤◌, false, cond, not, ◌&&◌, ◌||◌, eqb, sym, refl, ap, ◌∙◌, ap₂, suc-le-suc, lt_of_lt_of_le, le_of_suc-le-suc, not-suc-le-zero, pow-suc, one-add, arith, pow_mono, shr-shr}
 use native.Mathlib.Nat.{div-eq_of_lt}
 use lib.Arith.{lt-one}
 use lib.Count.{ones, ones_step, ones-ones}
-use lib.Bits.{bit_and, bit_or, and_shr, or_shr, and_mod, or_mod, and_mask, and_le_l}
-use Rattle.std.proofs.lemmas.Bool.{eqb-true, eq-eqb, ne_eqb, cases_lt, and_parts, true≢false, false≢true}
-use Rattle.std.proofs.lemmas.Nat.{one_shl}
+use lib.Bits.{bit_and, bit_or, and_shr, or_shr, and_mod, or_mod, and_mask}
+use Rattle.std.proofs.lemmas.Bool.{ne_eqb, true≢false, false≢true}
 use Rattle.std.proofs.lemmas.Bool.Decides.{nat_tests}
 use Rattle.quorum.specs.Members.{has, tally, one}
 use Rattle.quorum.specs.Tallies.{tally_same, tally_first}

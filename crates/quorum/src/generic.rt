@@ -13,8 +13,8 @@ pub fn meeting<R: QuorumRule>(
     other: ReplicaSet,
     set: ReplicaSet,
 ) -> Option<u8>
-    ensures value { result ≡ (if carries rule.now one.0 set.0 && carries rule.now other.0 set.0 then lowest_of (both (both one.0 other.0) set.0) else None) }
-    ensures meets { is_some result ≡ (carries rule.now one.0 set.0 && carries rule.now other.0 set.0) }
+    ensures value { result ≡ (if R.carries rule.now one.0 set.0 && R.carries rule.now other.0 set.0 then lowest_of (both (both one.0 other.0) set.0) else None) }
+    ensures meets { is_some result ≡ (R.carries rule.now one.0 set.0 && R.carries rule.now other.0 set.0) }
 {
     if rule.carries(one, set) && rule.carries(other, set) {
         one.intersection(other).intersection(set).lowest()

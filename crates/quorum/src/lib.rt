@@ -1,4 +1,6 @@
 // Sets of at most sixteen replicas, the rules by which a part carries a set, and the fault that all layers share.
+#![tactic(auto)]
+
 mod choice;
 mod count;
 mod fault;

@@ -1,4 +1,6 @@
 // The end of a round: from the head and what its replicas reported to an outcome and the view that is settled on.
+#![tactic(auto)]
+
 mod decision;
 mod members;
 mod outcome;

@@ -1,4 +1,6 @@
 // What a replica does and what it tells: rows, messages, and the rules that they keep.
+#![tactic(auto)]
+
 mod message;
 mod row;
 mod rules;

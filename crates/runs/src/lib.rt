@@ -1,4 +1,6 @@
 // Calls of a floor, runs of them, and what is found of every run. There is nothing to run here; each function carries a theorem.
+#![tactic(auto)]
+
 ghost use Rattle.runs.specs.Findings.{RunsSafe, SafeRuns};
 
 mod work;

@@ -1,4 +1,6 @@
 // Why two boards never arise: the findings over every run of moves. There is nothing to run here; each function carries a theorem.
+#![tactic(auto)]
+
 ghost use Rattle.safety.specs.Findings.{Safety, Safe};
 ghost use Rattle.safety.specs.Example.{GoesOn};
 

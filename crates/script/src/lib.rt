@@ -1,4 +1,6 @@
 // The script of a hall: lines of words, and the calls that they name.
+#![tactic(auto)]
+
 mod calls;
 mod commands;
 mod numerals;

@@ -1,4 +1,6 @@
 // Views and pages, the rules that pages keep, and the stores that keep pages.
+#![tactic(auto)]
+
 mod held;
 mod page;
 mod replay;

@@ -1,7 +1,5 @@
-use Rattle.std.proofs.Common.{◌≡◌, true, cond, ◌&&◌, is_some, None, sym, ap, ◌∙◌, rules}
+use Rattle.std.proofs.Common.{◌≡◌, true, is_some, sym, ap, ◌∙◌, rules}
 use Rattle.std.proofs.lemmas.Bool.{and_from}
-use Rattle.quorum.specs.Members.{has}
-use Rattle.quorum.specs.Below.{lowest}
 use Rattle.quorum.proofs.Below.{lowest_some}
 use Rattle.quorum.proofs.generic.meeting.Goals as goal
 

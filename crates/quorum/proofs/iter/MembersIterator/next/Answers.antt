@@ -5,8 +5,8 @@ use Rattle.std.proofs.iter.Next.{firm}
 
 pub returns : goal.returns
 returns c =
-    let at = lowest_member c.args.self.now.rest.0 c.in-ok-first.first (sym c.in-ok-first.ensures) in
+    let at = lowest_member c.args.self.now.rest.0 c.in_ok-first.first (sym c.in_ok-first.ensures) in
     record {
-      steps = (c.in-ok-first.ensures, c.without-self.ensures.bits);
+      steps = (c.in_ok-first.ensures, c.without-self.ensures.bits);
       goes = firm ((tt, tt, c.without-self.ensures.smaller at.1)) (λ h. search rules);
     }

@@ -1,4 +1,4 @@
-use Rattle.std.proofs.Common.{sym, ap, ◌∙◌, rules}
+use Rattle.std.proofs.Common.{ap, ◌∙◌, rules}
 use Rattle.quorum.specs.Members.{has}
 use Rattle.quorum.proofs.Sets.{shifted_single, high_single, has_alone}
 use Rattle.quorum.proofs.set.ReplicaSet.of.Goals as goal

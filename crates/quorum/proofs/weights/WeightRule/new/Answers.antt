@@ -1,5 +1,5 @@
 use Rattle.std.proofs.Common.{sym, refl, arith, rules}
-use Rattle.std.proofs.lemmas.Bool.{eq-eqb, ne_eqb}
+use Rattle.std.proofs.lemmas.Bool.{ne_eqb}
 use Rattle.quorum.proofs.Below.{any_from, any_none_from}
 use Rattle.quorum.proofs.weights.WeightRule.new.Goals as goal
 
