@@ -3,7 +3,7 @@ use Rattle.std.specs.Prelude.{◌≡◌, ℕ, zero, suc, ◌<◌, ◌≤◌, Boo
 use Rattle.quorum.specs.declared.fault.Fault.{Fault}
 use Rattle.stores.specs.declared.page.Page.{Page}
 use Rattle.stores.specs.declared.writing.Writing.{Writing}
-use Rattle.stores.specs.Kept.{fresh, page_at, Written, Cut}
+use Rattle.stores.specs.Kept.{fresh, Written, Cut}
 use Rattle.stores.specs.Rules.{keeps_rules}
 
 -- the writing number i of a list

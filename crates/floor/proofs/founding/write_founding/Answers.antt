@@ -26,7 +26,7 @@ loop-replica-preserved g c =
     let Done : g.row.S.Denot → Type 0 = λ s. (16 ≤ g.S.Store.places s + (k + 1)) × FoundedPages v before (k + 1) (g.S.Store.pages s) in
     elim c.if-contains.branch [
       | then-contains+in-ok-write w ↦
-          let wrote = w.in-ok-write.ensures in
+          let wrote = w.in_ok-write.ensures in
           let member : has v.set.0 k ≡ true = sym c.contains.ensures.test ∙ w.if-contains.true in
           let pages = founded_write v before (g.S.Store.pages c.loop-replica.store) k (g.met.S.Store.sixteen c.loop-replica.store) c.loop-replica-test.true member c.loop-replica.invariant.1 in
           let same = wrote.0 ∙ ap (λ p. set (g.S.Store.pages c.loop-replica.store) k p) w.founding_page.ensures in

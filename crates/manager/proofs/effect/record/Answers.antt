@@ -3,4 +3,4 @@ use Rattle.manager.proofs.effect.record.Goals as goal
 
 pub returns : goal.returns
 unfolding entry_of
-returns c = c.record-stage.ensures
+returns c = c.record_stage.ensures

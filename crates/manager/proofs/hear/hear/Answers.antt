@@ -3,4 +3,4 @@ use Rattle.manager.proofs.hear.hear.Goals as goal
 
 pub returns : goal.returns
 unfolding hears
-returns c = c.hear-stage.ensures
+returns c = c.hear_stage.ensures

@@ -3,4 +3,4 @@ use Rattle.manager.proofs.judge.judge.Goals as goal
 
 pub returns : goal.returns
 unfolding verdict_of
-returns g c = c.judge-stage.ensures
+returns g c = c.judge_stage.ensures

@@ -4,11 +4,11 @@ use Rattle.manager.specs.Calls.{loss_refusal}
 use Rattle.manager.proofs.Refusing.{first_refuses, first_allows}
 use Rattle.manager.proofs.refuse.check_loss.Goals as goal
 
-pub returns-in-err-check-offer : goal.returns-in-err-check-offer
+pub returns-in_err-check_offer : goal.returns-in_err-check_offer
 unfolding loss_refusal
-returns-in-err-check-offer c =
-    let e = err_from_is_err_and c.from-residual.result c.from-residual.ensures.1 in
-    rw (e.1, e.2) (first_refuses _ _ _ c.in-err-check-offer.ensures.test)
+returns-in_err-check_offer c =
+    let e = err_from_is_err_and c.from_residual.result c.from_residual.ensures.1 in
+    rw (e.1, e.2) (first_refuses _ _ _ c.in_err-check_offer.ensures.test)
 
 pub returns : goal.returns
 unfolding loss_refusal

@@ -8,9 +8,9 @@ returns g c =
     let f = g.R.QuorumRule.carries rule in
     let h = c.args.head in
     let rs = c.args.reports.now in
-    let d = c.first-that-applies.result in
+    let d = c.first_that_applies.result in
     record {
-      first = c.first-that-applies.ensures;
-      grounds = grounds_of f h rs (laws.grows rule) (laws.meets rule) d c.first-that-applies.ensures;
-      only = only_of f h rs (laws.grows rule) (laws.meets rule) d c.first-that-applies.ensures;
+      first = c.first_that_applies.ensures;
+      grounds = grounds_of f h rs (laws.grows rule) (laws.meets rule) d c.first_that_applies.ensures;
+      only = only_of f h rs (laws.grows rule) (laws.meets rule) d c.first_that_applies.ensures;
     }

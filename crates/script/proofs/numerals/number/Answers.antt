@@ -1,10 +1,10 @@
-use Rattle.std.proofs.Common.{◌≡◌, ◌+◌, ◌<◌, length, drop, sym, ap, ◌∙◌, rules}
+use Rattle.std.proofs.Common.{◌+◌, drop, sym, ap, ◌∙◌, rules}
 use Rattle.script.specs.Numerals.{reads_on}
 use Rattle.script.proofs.Reading.{reads_nothing, reads_starts, reads_step, reads_stops, reads_ends}
 use Rattle.script.proofs.numerals.number.Goals as goal
 
-pub returns-then-is-empty : goal.returns-then-is-empty
-returns-then-is-empty c = sym (reads_nothing c.args.word.now (search rules))
+pub returns-then-is_empty : goal.returns-then-is_empty
+returns-then-is_empty c = sym (reads_nothing c.args.word.now (search rules))
 
 pub loop-byte-init : goal.loop-byte-init
 loop-byte-init c = reads_starts c.args.word.now (search rules)
@@ -14,14 +14,14 @@ loop-byte-preserved c =
     let i = c.loop-byte.byte-index in
     let w = c.args.word.now in
     c.loop-byte.invariant ∙ reads_step c.loop-byte.value w i (search rules) ∙
-    ap (λ o. reads_on o (drop (i + 1) w)) (sym c.one-more.ensures ∙ c.in-Some.is)
+    ap (λ o. reads_on o (drop (i + 1) w)) (sym c.one_more.ensures ∙ c.in-Some.is)
 
-pub returns-in-default : goal.returns-in-default
-returns-in-default c =
+pub returns-in_default : goal.returns-in_default
+returns-in_default c =
     let i = c.loop-byte.byte-index in
     let w = c.args.word.now in
     sym (c.loop-byte.invariant ∙ reads_step c.loop-byte.value w i (search rules) ∙
-    ap (λ o. reads_on o (drop (i + 1) w)) (sym c.one-more.ensures ∙ c.in-default.is) ∙ reads_stops (drop (i + 1) w))
+    ap (λ o. reads_on o (drop (i + 1) w)) (sym c.one_more.ensures ∙ c.in_default.is) ∙ reads_stops (drop (i + 1) w))
 
 pub returns : goal.returns
 returns c = sym (c.loop-byte.invariant ∙ reads_ends c.loop-byte.value c.args.word.now c.loop-byte.byte-index (search rules))

@@ -5,9 +5,9 @@ use Rattle.quorum.specs.Members.{listed, majority}
 use Rattle.starred.proofs.table.heavy_carries.Goals as goal
 
 -- no weight is zero, so it is not refused
-pub returns-in-default : goal.returns-in-default
+pub returns-in_default : goal.returns-in_default
 unfolding any
-returns-in-default c = absurd (true≢false c.in-default.ensures.refused)
+returns-in_default c = absurd (true≢false c.in_default.ensures.refused)
 
 pub returns : goal.returns
 returns c = c.carries.ensures ∙ ap (λ ws. majority (listed ws) c.args.part.0 c.args.set.0) c.in-Ok.ensures.kept

@@ -1,4 +1,4 @@
-use Rattle.std.proofs.Common.{sym, ap, ◌∙◌, rules, below_none, below_more}
+use Rattle.std.proofs.Common.{sym, ap, ◌∙◌, below_none, below_more}
 use Rattle.stores.specs.Writings.{acceptable}
 use Rattle.stores.proofs.Reading.{may_read_none, may_read_more}
 use Rattle.stores.proofs.replay.carry_out.Goals as goal

@@ -14,28 +14,28 @@ use Rattle.floor.specs.Tasks.{managed}
 use Rattle.floor.proofs.Ruled.{floor_refuses, ruled_refused, asked_managed, managed_refused, managed_accepted, managed_keeps, finishes_did}
 use Rattle.floor.proofs.floor.Floor.carry_out.Goals as goal
 
-pub returns-in-err-task : goal.returns-in-err-task
-returns-in-err-task g c =
+pub returns-in_err-task : goal.returns-in_err-task
+returns-in_err-task g c =
     let f = g.R.QuorumRule.carries c.args.self.now.rule in
     let w : World = record { pages = g.S.Store.pages c.args.self.now.store; places = g.S.Store.places c.args.self.now.store; rows = c.args.self.now.table.rows; post = vec_items c.args.post.now; goal = c.args.self.now.need } in
-    let e = err_from_is_err_and c.from-residual.result c.from-residual.ensures.1 in
-    rw (e.1, e.2) (record { did = (floor_refuses f w c.args.work _ c.in-err-task.ensures.test, record { pages_are = refl; rows_are = refl; post_is = refl; places_are = refl; need_is = refl }); rule = refl })
+    let e = err_from_is_err_and c.from_residual.result c.from_residual.ensures.1 in
+    rw (e.1, e.2) (record { did = (floor_refuses f w c.args.work _ c.in_err-task.ensures.test, record { pages_are = refl; rows_are = refl; post_is = refl; places_are = refl; need_is = refl }); rule = refl })
 
-pub returns-in-err-answer : goal.returns-in-err-answer
-returns-in-err-answer g c =
+pub returns-in_err-answer : goal.returns-in_err-answer
+returns-in_err-answer g c =
     let f = g.R.QuorumRule.carries c.args.self.now.rule in
     let w : World = record { pages = g.S.Store.pages c.args.self.now.store; places = g.S.Store.places c.args.self.now.store; rows = c.args.self.now.table.rows; post = vec_items c.args.post.now; goal = c.args.self.now.need } in
     let k = c.args.work in
-    let t = c.in-ok-task.task in
-    let r = c.replica-of-replica.result in
+    let t = c.in_ok-task.task in
+    let r = c.replica_of-replica.result in
     let m : Result Effect Fault = managed f w.need r c.read-page.result (row_at w.rows r) t in
-    let at : r ≡ replica_of k = c.replica-of-replica.ensures in
+    let at : r ≡ replica_of k = c.replica_of-replica.ensures in
     let page = c.read-page.ensures in
     let same : m ≡ managed f w.need (replica_of k) (page_of f w (replica_of k)) (row_of f w (replica_of k)) t =
     ap (λ p. managed f w.need r p (row_at w.rows r) t) page ∙ ap (λ q. managed f w.need q (page_at w.pages q) (row_at w.rows q) t) at in
-    let asks = asked_managed f w k t c.in-ok-task.ensures.test in
-    let no = managed_refused m _ c.in-err-answer.ensures.answer in
-    let e = err_from_is_err_and c.from-residual-in-err-answer.result c.from-residual-in-err-answer.ensures.1 in
+    let asks = asked_managed f w k t c.in_ok-task.ensures.test in
+    let no = managed_refused m _ c.in_err-answer.ensures.answer in
+    let e = err_from_is_err_and c.from_residual-in_err-answer.result c.from_residual-in_err-answer.ensures.1 in
     rw (e.1, e.2) (record {
       did = (
         ruled_refused f w k _ (asks ∙ sym same ∙ no),
@@ -53,13 +53,13 @@ returns-in-err-answer g c =
 pub finish-requires : goal.finish-requires
 finish-requires g c =
     let f = g.R.QuorumRule.carries c.args.self.now.rule in
-    let r = c.replica-of-replica.result in
-    let m : Result Effect Fault = managed f c.args.self.now.need r c.read-page.result (row_at c.args.self.now.table.rows r) c.in-ok-task.task in
-    let yes = managed_accepted m _ c.in-ok-answer.ensures.answer in
-    let keeps = managed_keeps f c.args.self.now.need r c.read-page.result (row_at c.args.self.now.table.rows r) c.in-ok-task.task yes.0 yes.1 in
+    let r = c.replica_of-replica.result in
+    let m : Result Effect Fault = managed f c.args.self.now.need r c.read-page.result (row_at c.args.self.now.table.rows r) c.in_ok-task.task in
+    let yes = managed_accepted m _ c.in_ok-answer.ensures.answer in
+    let keeps = managed_keeps f c.args.self.now.need r c.read-page.result (row_at c.args.self.now.table.rows r) c.in_ok-task.task yes.0 yes.1 in
     let page = c.lend.ensures.page ∙ ap (page_left c.read-page.result) yes.1 in
     record {
-      within = subst (λ (n : ℕ). n < 16) (sym c.replica-of-replica.ensures) c.in-ok-task.ensures.within;
+      within = subst (λ (n : ℕ). n < 16) (sym c.replica_of-replica.ensures) c.in_ok-task.ensures.within;
       kept = ap (keeps_rules r) page ∙ keeps.page;
     }
 
@@ -69,14 +69,14 @@ returns g c =
     let w : World = record { pages = g.S.Store.pages c.args.self.now.store; places = g.S.Store.places c.args.self.now.store; rows = c.args.self.now.table.rows; post = vec_items c.args.post.now; goal = c.args.self.now.need } in
     let v : World = record { pages = g.S.Store.pages c.finish.new.self.store; places = g.S.Store.places c.finish.new.self.store; rows = c.finish.new.self.table.rows; post = vec_items c.finish.new.post; goal = c.finish.new.self.need } in
     let k = c.args.work in
-    let t = c.in-ok-task.task in
-    let r = c.replica-of-replica.result in
+    let t = c.in_ok-task.task in
+    let r = c.replica_of-replica.result in
     let m : Result Effect Fault = managed f w.need r c.read-page.result (row_at w.rows r) t in
-    let at : r ≡ replica_of k = c.replica-of-replica.ensures in
+    let at : r ≡ replica_of k = c.replica_of-replica.ensures in
     let same : m ≡ managed f w.need (replica_of k) (page_of f w (replica_of k)) (row_of f w (replica_of k)) t =
     ap (λ p. managed f w.need r p (row_at w.rows r) t) c.read-page.ensures ∙ ap (λ q. managed f w.need q (page_at w.pages q) (row_at w.rows q) t) at in
-    let asks = asked_managed f w k t c.in-ok-task.ensures.test in
-    let yes = managed_accepted m c.in-ok-answer.answer c.in-ok-answer.ensures.answer in
+    let asks = asked_managed f w k t c.in_ok-task.ensures.test in
+    let yes = managed_accepted m c.in_ok-answer.answer c.in_ok-answer.ensures.answer in
     let e = yes.0 in
     let store = c.lend.ensures.rest.1 in
     let rows : c.lend.new.self.table.rows ≡ set w.rows r e.row = c.lend.ensures.rows ∙ ap (λ x. set w.rows r (row_left (row_at w.rows r) x)) yes.1 in

@@ -8,12 +8,12 @@ use Rattle.floor.proofs.floor.Floor.found.Goals as goal
 
 pub returns : goal.returns
 returns g c =
-    let accepted = c.in-ok-check-founding.ensures in
+    let accepted = c.in_ok-check_founding.ensures in
     let before = c.args.self.now.store in
-    let w : World = record { pages = g.S.Store.pages c.write-founding.new.store; places = g.S.Store.places c.write-founding.new.store; rows = c.new-self.result.rows; post = vec_items c.clear.new.self; goal = c.args.need } in
+    let w : World = record { pages = g.S.Store.pages c.write_founding.new.store; places = g.S.Store.places c.write_founding.new.store; rows = c.new-self.result.rows; post = vec_items c.clear.new.self; goal = c.args.need } in
     let left : Founding c.args.view c.args.need w.pages w.rows w.need w.post = record {
-      pages_are = founded_all c.args.view _ _ (accepted_fresh c.args.view _ _ _ accepted) c.write-founding.ensures.pages;
-      rows_are = subst (λ (rows : List Row). FoundedRows c.args.view rows) (sym c.new-self.ensures) c.founding-rows.ensures.rows;
+      pages_are = founded_all c.args.view _ _ (accepted_fresh c.args.view _ _ _ accepted) c.write_founding.ensures.pages;
+      rows_are = subst (λ (rows : List Row). FoundedRows c.args.view rows) (sym c.new-self.ensures) c.founding_rows.ensures.rows;
       need_is = refl;
       silent = c.clear.ensures.items;
     } in
@@ -21,7 +21,7 @@ returns g c =
       answer = accepted;
       founded = left;
       begins = founded c.args.view c.args.need (g.S.Store.pages before) (g.S.Store.places before) w (search rules) (was_allowed _ _ accepted) left
-          (g.met.S.Store.sixteen c.write-founding.new.store) (ap length c.new-self.ensures ∙ c.founding-rows.ensures.sixteen);
+          (g.met.S.Store.sixteen c.write_founding.new.store) (ap length c.new-self.ensures ∙ c.founding_rows.ensures.sixteen);
       rule = refl;
       kept = tt;
     }

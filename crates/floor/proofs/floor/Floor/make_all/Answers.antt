@@ -22,12 +22,12 @@ loop-i-preserved g c =
     let i = c.loop-i.i in
     let calls = c.args.calls.now in
     let same = c.loop-i.invariant.1 in
-    let stepped : Step f v c.call-at.result c.step.result u =
-    subst (λ (x : g.row.R.Denot). Step (g.R.QuorumRule.carries x) v c.call-at.result c.step.result u) same c.step.ensures.step in
-    let t : Taken = record { call = c.call-at.result; answer = c.step.result; world = u } in
+    let stepped : Step f v c.call_at.result c.step.result u =
+    subst (λ (x : g.row.R.Denot). Step (g.R.QuorumRule.carries x) v c.call_at.result c.step.result u) same c.step.ensures.step in
+    let t : Taken = record { call = c.call_at.result; answer = c.step.result; world = u } in
     let more = ran_more f w v (take i calls) t c.loop-i.invariant.0 stepped in
-    let list : take i calls ++ c.call-at.result ∷ [] ≡ take (i + 1) calls =
-    ap (λ x. take i calls ++ x ∷ []) c.call-at.ensures ∙ sym (take_more calls i (Stop 0) c.loop-i-test.true) in
+    let list : take i calls ++ c.call_at.result ∷ [] ≡ take (i + 1) calls =
+    ap (λ x. take i calls ++ x ∷ []) c.call_at.ensures ∙ sym (take_more calls i (Stop 0) c.loop-i-test.true) in
     (subst (λ (cs : List Call). Ran f w u cs) list more, c.step.ensures.rule ∙ same)
 
 pub returns : goal.returns

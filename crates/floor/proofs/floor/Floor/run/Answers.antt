@@ -9,7 +9,7 @@ returns g c =
     let rule = c.args.self.now.rule in
     let f = g.R.QuorumRule.carries rule in
     let met = g.met.R.QuorumRule in
-    let ran = c.make-all.ensures.ran in
+    let ran = c.make_all.ensures.ran in
     record {
       found = record {
         ran = ran;
@@ -17,5 +17,5 @@ returns g c =
             runs_on_safe f (met.local rule) (met.whole rule) (met.grows rule) (met.meets rule) first start before ran.takens founded run
             (subst (λ (x : World). Run f x ran.takens) (sym ends) ran.run);
       };
-      rule = c.make-all.ensures.rule;
+      rule = c.make_all.ensures.rule;
     }

@@ -1,4 +1,4 @@
-use Rattle.std.proofs.Common.{◌≡◌, Bool, Decides, sym, subst}
+use Rattle.std.proofs.Common.{Bool, Decides, sym, subst}
 use Rattle.stores.specs.Facts.{PageRules}
 use Rattle.stores.proofs.Kept.{decides_rules}
 use Rattle.stores.proofs.page.Page.keeps_rules.Goals as goal

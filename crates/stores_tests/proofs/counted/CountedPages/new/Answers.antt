@@ -4,8 +4,8 @@ use Rattle.stores.specs.Kept.{fresh, Sound}
 use Rattle.stores.proofs.Pages.{fresh_sound}
 use Rattle.stores_tests.proofs.counted.CountedPages.new.Goals as goal
 
-pub invariant-of-result : goal.invariant-of-result
-invariant-of-result c =
-    let copied : vec_items c.in-ok-pages.pages ≡ replicate 16 c.fresh.result = c.in-ok-pages.ensures.items in
-    let items : vec_items c.in-ok-pages.pages ≡ replicate 16 fresh = copied ∙ ap (replicate 16) c.fresh.ensures in
+pub invariant_of-result : goal.invariant_of-result
+invariant_of-result c =
+    let copied : vec_items c.in_ok-pages.pages ≡ replicate 16 c.fresh.result = c.in_ok-pages.ensures.items in
+    let items : vec_items c.in_ok-pages.pages ≡ replicate 16 fresh = copied ∙ ap (replicate 16) c.fresh.ensures in
     (ap length items, (subst Sound (sym items) fresh_sound, tt))
