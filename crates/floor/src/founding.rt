@@ -23,7 +23,7 @@ fn is_fresh(page: Page) -> bool
 
 // Some page is not fresh.
 fn any_used<S: Store>(store: &S) -> bool
-    ensures { result ≡ any (λ r. not (is_fresh (page_at (pages store.now) r))) 16 }
+    ensures { result ≡ any (λ r. not (is_fresh (page_at (S.pages store.now) r))) 16 }
 {
     for replica in 0..16u8 {
         if !is_fresh(store.read(replica)) {

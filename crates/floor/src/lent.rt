@@ -20,9 +20,9 @@ fn manage<R: QuorumRule>(
     row: &mut Row,
     task: Task,
 ) -> Result<Answer, Fault>
-    ensures answer { result ≡ answer_of (managed (carries rule.now) need replica page.old row.old task) }
-    ensures page { page.new ≡ page_left page.old (managed (carries rule.now) need replica page.old row.old task) }
-    ensures row { row.new ≡ row_left row.old (managed (carries rule.now) need replica page.old row.old task) }
+    ensures answer { result ≡ answer_of (managed (R.carries rule.now) need replica page.old row.old task) }
+    ensures page { page.new ≡ page_left page.old (managed (R.carries rule.now) need replica page.old row.old task) }
+    ensures row { row.new ≡ row_left row.old (managed (R.carries rule.now) need replica page.old row.old task) }
 {
     match task {
         Task::View(head) => manager::view(rule, need, replica, page, row, head),

@@ -26,9 +26,9 @@ pub fn view<R: QuorumRule>(
     row: &mut Row,
     head: Head,
 ) -> Result<Answer, Fault>
-    ensures answer { result ≡ answer_of (viewed (carries rule.now) need replica page.old row.old head) }
-    ensures page { page.new ≡ page_left page.old (viewed (carries rule.now) need replica page.old row.old head) }
-    ensures row { row.new ≡ row_left row.old (viewed (carries rule.now) need replica page.old row.old head) }
+    ensures answer { result ≡ answer_of (viewed (R.carries rule.now) need replica page.old row.old head) }
+    ensures page { page.new ≡ page_left page.old (viewed (R.carries rule.now) need replica page.old row.old head) }
+    ensures row { row.new ≡ row_left row.old (viewed (R.carries rule.now) need replica page.old row.old head) }
 {
     check_view(replica, page, row, head)?;
     Ok(take_up(rule, need, replica, page, row, head))
@@ -44,9 +44,9 @@ fn follow<R: QuorumRule>(
     head: Head,
     hearing: Hearing,
 ) -> Answer
-    ensures answer { result ≡ (following (carries rule.now) need replica page.old row.old head hearing).answer }
-    ensures page { page.new ≡ (following (carries rule.now) need replica page.old row.old head hearing).page }
-    ensures row { row.new ≡ (following (carries rule.now) need replica page.old row.old head hearing).row }
+    ensures answer { result ≡ (following (R.carries rule.now) need replica page.old row.old head hearing).answer }
+    ensures page { page.new ≡ (following (R.carries rule.now) need replica page.old row.old head hearing).page }
+    ensures row { row.new ≡ (following (R.carries rule.now) need replica page.old row.old head hearing).row }
 {
     match hearing {
         Hearing::Heard => judge_head(rule, need, replica, page, row, None),
@@ -77,9 +77,9 @@ fn hear_and_follow<R: QuorumRule>(
     message: &Message,
 ) -> Result<Answer, Fault>
     requires { message.now.sender < 16 }
-    ensures answer { result ≡ answer_of (heard_or_not (carries rule.now) need replica page.old row.old message.now.head (hears page.old row.old message.now.sender message.now.body)) }
-    ensures page { page.new ≡ page_left page.old (heard_or_not (carries rule.now) need replica page.old row.old message.now.head (hears page.old row.old message.now.sender message.now.body)) }
-    ensures row { row.new ≡ row_left row.old (heard_or_not (carries rule.now) need replica page.old row.old message.now.head (hears page.old row.old message.now.sender message.now.body)) }
+    ensures answer { result ≡ answer_of (heard_or_not (R.carries rule.now) need replica page.old row.old message.now.head (hears page.old row.old message.now.sender message.now.body)) }
+    ensures page { page.new ≡ page_left page.old (heard_or_not (R.carries rule.now) need replica page.old row.old message.now.head (hears page.old row.old message.now.sender message.now.body)) }
+    ensures row { row.new ≡ row_left row.old (heard_or_not (R.carries rule.now) need replica page.old row.old message.now.head (hears page.old row.old message.now.sender message.now.body)) }
 {
     match hear(page, row, message.sender, &message.body) {
         Ok(hearing) => Ok(follow(rule, need, replica, page, row, message.head, hearing)),
@@ -96,9 +96,9 @@ pub fn deliver<R: QuorumRule>(
     row: &mut Row,
     message: &Message,
 ) -> Result<Answer, Fault>
-    ensures answer { result ≡ answer_of (delivered (carries rule.now) need replica page.old row.old message.now) }
-    ensures page { page.new ≡ page_left page.old (delivered (carries rule.now) need replica page.old row.old message.now) }
-    ensures row { row.new ≡ row_left row.old (delivered (carries rule.now) need replica page.old row.old message.now) }
+    ensures answer { result ≡ answer_of (delivered (R.carries rule.now) need replica page.old row.old message.now) }
+    ensures page { page.new ≡ page_left page.old (delivered (R.carries rule.now) need replica page.old row.old message.now) }
+    ensures row { row.new ≡ row_left row.old (delivered (R.carries rule.now) need replica page.old row.old message.now) }
 {
     check_delivery(replica, page, row, message)?;
     hear_and_follow(rule, need, replica, page, row, message)
@@ -119,9 +119,9 @@ pub fn lose<R: QuorumRule>(
     row: &mut Row,
     lost: u8,
 ) -> Result<Answer, Fault>
-    ensures answer { result ≡ answer_of (lost_at (carries rule.now) need replica page.old row.old lost) }
-    ensures page { page.new ≡ page_left page.old (lost_at (carries rule.now) need replica page.old row.old lost) }
-    ensures row { row.new ≡ row_left row.old (lost_at (carries rule.now) need replica page.old row.old lost) }
+    ensures answer { result ≡ answer_of (lost_at (R.carries rule.now) need replica page.old row.old lost) }
+    ensures page { page.new ≡ page_left page.old (lost_at (R.carries rule.now) need replica page.old row.old lost) }
+    ensures row { row.new ≡ row_left row.old (lost_at (R.carries rule.now) need replica page.old row.old lost) }
 {
     check_loss(replica, page, row, lost)?;
     mark_lost(row, lost);

@@ -244,9 +244,9 @@ pub(crate) fn judge_head<R: QuorumRule>(
     row: &mut Row,
     first: Option<Message>,
 ) -> Answer
-    ensures answer { result ≡ (judged (carries rule.now) need replica page.old row.old first).answer }
-    ensures page { page.new ≡ (judged (carries rule.now) need replica page.old row.old first).page }
-    ensures row { row.new ≡ (judged (carries rule.now) need replica page.old row.old first).row }
+    ensures answer { result ≡ (judged (R.carries rule.now) need replica page.old row.old first).answer }
+    ensures page { page.new ≡ (judged (R.carries rule.now) need replica page.old row.old first).page }
+    ensures row { row.new ≡ (judged (R.carries rule.now) need replica page.old row.old first).row }
 {
     let verdict = judge(rule, need, replica, page, row);
     let Verdict::Records = verdict else {
@@ -275,9 +275,9 @@ pub(crate) fn judge_loss<R: QuorumRule>(
     page: &mut Page,
     row: &mut Row,
 ) -> Answer
-    ensures answer { result ≡ (judged_after_loss (carries rule.now) need replica page.old row.old).answer }
-    ensures page { page.new ≡ (judged_after_loss (carries rule.now) need replica page.old row.old).page }
-    ensures row { row.new ≡ (judged_after_loss (carries rule.now) need replica page.old row.old).row }
+    ensures answer { result ≡ (judged_after_loss (R.carries rule.now) need replica page.old row.old).answer }
+    ensures page { page.new ≡ (judged_after_loss (R.carries rule.now) need replica page.old row.old).page }
+    ensures row { row.new ≡ (judged_after_loss (R.carries rule.now) need replica page.old row.old).row }
 {
     let verdict = without_recording(judge(rule, need, replica, page, row));
     carry_out(replica, page, row, Posts::Nothing, verdict)

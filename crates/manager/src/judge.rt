@@ -60,7 +60,7 @@ fn judge_carrying<R: QuorumRule>(
     lost: ReplicaSet,
     set: ReplicaSet,
 ) -> Verdict
-    ensures { result ≡ carrying_verdict (carries rule.now) heard.0 survivors.0 lost.0 set.0 }
+    ensures { result ≡ carrying_verdict (R.carries rule.now) heard.0 survivors.0 lost.0 set.0 }
 {
     if rule.carries(heard, set) {
         return Verdict::Installs;
@@ -78,7 +78,7 @@ fn judge_confirming<R: QuorumRule>(
     confirmed: Confirmed,
     component: View,
 ) -> Verdict
-    ensures { result ≡ confirming_verdict (carries rule.now) survivors.0 lost.0 confirmed component }
+    ensures { result ≡ confirming_verdict (R.carries rule.now) survivors.0 lost.0 confirmed component }
 {
     let heard = confirmed.members.intersection(survivors);
     judge_carrying(rule, heard, survivors, lost, component.set)
@@ -148,7 +148,7 @@ fn judge_entering<R: QuorumRule>(
     head: Head,
     entered: Entered,
 ) -> Verdict
-    ensures { result ≡ entering_verdict (carries rule.now) lost.0 head entered }
+    ensures { result ≡ entering_verdict (R.carries rule.now) lost.0 head entered }
 {
     let Reference {
         component,
@@ -187,7 +187,7 @@ fn heard_of(reports: &[Option<Report>; 16]) -> ReplicaSet
 
 // The round's decision, taken apart.
 fn judge_reports<R: QuorumRule>(rule: &R, head: Head, reports: &[Option<Report>; 16]) -> Verdict
-    ensures { result ≡ Verdict.Ends (round_end (carries rule.now) head reports.now).0 (round_end (carries rule.now) head reports.now).1 }
+    ensures { result ≡ Verdict.Ends (round_end (R.carries rule.now) head reports.now).0 (round_end (R.carries rule.now) head reports.now).1 }
 {
     let (outcome, settled) = decide(rule, head, reports);
     Verdict::Ends(outcome, settled)
@@ -199,7 +199,7 @@ fn judge_round<R: QuorumRule>(
     head: Head,
     reports: &[Option<Report>; 16],
 ) -> Verdict
-    ensures { result ≡ round_verdict (carries rule.now) lost.0 head reports.now }
+    ensures { result ≡ round_verdict (R.carries rule.now) lost.0 head reports.now }
 {
     if !lost.is_empty() {
         return Verdict::Ends(Outcome::LostMember, None);
@@ -211,7 +211,7 @@ fn judge_round<R: QuorumRule>(
 }
 
 fn judge_stage<R: QuorumRule>(rule: &R, need: Need, replica: u8, page: &Page, row: &Row) -> Verdict
-    ensures { result ≡ stage_verdict (carries rule.now) need replica page.now row.now.survivors.0 row.now.lost.0 row.now.stage }
+    ensures { result ≡ stage_verdict (R.carries rule.now) need replica page.now row.now.survivors.0 row.now.lost.0 row.now.stage }
 {
     let survivors = row.survivors;
     let lost = row.lost;
@@ -237,7 +237,7 @@ pub(crate) fn judge<R: QuorumRule>(
     page: &Page,
     row: &Row,
 ) -> Verdict
-    ensures { result ≡ verdict_of (carries rule.now) need replica page.now row.now }
+    ensures { result ≡ verdict_of (R.carries rule.now) need replica page.now row.now }
 {
     judge_stage(rule, need, replica, page, row)
 }

@@ -61,9 +61,9 @@ fn begin_round<R: QuorumRule>(
     first: Option<Message>,
 ) -> Answer
     requires { replica < 16 }
-    ensures answer { result ≡ (beginning (carries rule.now) need replica page.old row.old head first).answer }
-    ensures page { page.new ≡ (beginning (carries rule.now) need replica page.old row.old head first).page }
-    ensures row { row.new ≡ (beginning (carries rule.now) need replica page.old row.old head first).row }
+    ensures answer { result ≡ (beginning (R.carries rule.now) need replica page.old row.old head first).answer }
+    ensures page { page.new ≡ (beginning (R.carries rule.now) need replica page.old row.old head first).page }
+    ensures row { row.new ≡ (beginning (R.carries rule.now) need replica page.old row.old head first).row }
 {
     row.stage = Stage::Round(head, own_reports(replica, page));
     let posts = posts_of(first, Some(report_message(replica, head, page)));
@@ -79,9 +79,9 @@ fn record_at_once<R: QuorumRule>(
     page: &mut Page,
     row: &mut Row,
 ) -> Answer
-    ensures answer { result ≡ (judged_again (carries rule.now) need replica None (entry_of replica page.old row.old)).answer }
-    ensures page { page.new ≡ (judged_again (carries rule.now) need replica None (entry_of replica page.old row.old)).page }
-    ensures row { row.new ≡ (judged_again (carries rule.now) need replica None (entry_of replica page.old row.old)).row }
+    ensures answer { result ≡ (judged_again (R.carries rule.now) need replica None (entry_of replica page.old row.old)).answer }
+    ensures page { page.new ≡ (judged_again (R.carries rule.now) need replica None (entry_of replica page.old row.old)).page }
+    ensures row { row.new ≡ (judged_again (R.carries rule.now) need replica None (entry_of replica page.old row.old)).row }
 {
     let recorded = record(replica, page, row);
     let verdict = judge(rule, need, replica, page, row);
@@ -123,9 +123,9 @@ fn member_takes_up<R: QuorumRule>(
     component: View,
 ) -> Answer
     requires { replica < 16 }
-    ensures answer { result ≡ (member_takes_up (carries rule.now) need replica page.old row.old head component).answer }
-    ensures page { page.new ≡ (member_takes_up (carries rule.now) need replica page.old row.old head component).page }
-    ensures row { row.new ≡ (member_takes_up (carries rule.now) need replica page.old row.old head component).row }
+    ensures answer { result ≡ (member_takes_up (R.carries rule.now) need replica page.old row.old head component).answer }
+    ensures page { page.new ≡ (member_takes_up (R.carries rule.now) need replica page.old row.old head component).page }
+    ensures row { row.new ≡ (member_takes_up (R.carries rule.now) need replica page.old row.old head component).row }
 {
     if !rule.carries(row.survivors, component.set) {
         page.mode = Mode::Reconfiguration;
@@ -156,9 +156,9 @@ fn normal_takes_up<R: QuorumRule>(
     head: Head,
 ) -> Answer
     requires { replica < 16 }
-    ensures answer { result ≡ (normal_takes_up (carries rule.now) need replica page.old row.old head page.old.component).answer }
-    ensures page { page.new ≡ (normal_takes_up (carries rule.now) need replica page.old row.old head page.old.component).page }
-    ensures row { row.new ≡ (normal_takes_up (carries rule.now) need replica page.old row.old head page.old.component).row }
+    ensures answer { result ≡ (normal_takes_up (R.carries rule.now) need replica page.old row.old head page.old.component).answer }
+    ensures page { page.new ≡ (normal_takes_up (R.carries rule.now) need replica page.old row.old head page.old.component).page }
+    ensures row { row.new ≡ (normal_takes_up (R.carries rule.now) need replica page.old row.old head page.old.component).row }
 {
     let Some(component) = page.component else {
         return Answer::quiet();
@@ -177,9 +177,9 @@ pub(crate) fn take_up<R: QuorumRule>(
     head: Head,
 ) -> Answer
     requires { replica < 16 }
-    ensures answer { result ≡ (taking_up (carries rule.now) need replica page.old row.old head).answer }
-    ensures page { page.new ≡ (taking_up (carries rule.now) need replica page.old row.old head).page }
-    ensures row { row.new ≡ (taking_up (carries rule.now) need replica page.old row.old head).row }
+    ensures answer { result ≡ (taking_up (R.carries rule.now) need replica page.old row.old head).answer }
+    ensures page { page.new ≡ (taking_up (R.carries rule.now) need replica page.old row.old head).page }
+    ensures row { row.new ≡ (taking_up (R.carries rule.now) need replica page.old row.old head).row }
 {
     page.top = head.stamp;
     match page.mode {

@@ -17,7 +17,7 @@ fn barred<R: QuorumRule>(
     reports: &[Option<Report>; 16],
     view: View,
 ) -> Option<Outcome>
-    ensures { result ≡ barred (carries rule.now) head reports.now view }
+    ensures { result ≡ barred (R.carries rule.now) head reports.now view }
 {
     if !rule.carries(head.set, view.set) {
         return Some(Outcome::NotCarried);
@@ -35,7 +35,7 @@ fn clear_or_all<R: QuorumRule>(
     reports: &[Option<Report>; 16],
     view: View,
 ) -> (Outcome, Option<View>)
-    ensures { result ≡ clear_or_all (carries rule.now) head reports.now view }
+    ensures { result ≡ clear_or_all (R.carries rule.now) head reports.now view }
 {
     if rule.carries(clear_members(reports, view), view.set) {
         return (Outcome::SettledByClear, Some(view));
@@ -52,7 +52,7 @@ fn first_that_applies<R: QuorumRule>(
     head: Head,
     reports: &[Option<Report>; 16],
 ) -> (Outcome, Option<View>)
-    ensures { result ≡ decided (carries rule.now) head reports.now }
+    ensures { result ≡ decided (R.carries rule.now) head reports.now }
 {
     let Some(view) = presumed(reports) else {
         return (Outcome::NoComponent, None);
@@ -75,9 +75,9 @@ pub fn decide<R: QuorumRule>(
     head: Head,
     reports: &[Option<Report>; 16],
 ) -> (Outcome, Option<View>)
-    ensures first { result ≡ decided (carries rule.now) head reports.now }
-    ensures grounds { Grounds (carries rule.now) head reports.now result.0 result.1 }
-    ensures only { Only (carries rule.now) head reports.now result }
+    ensures first { result ≡ decided (R.carries rule.now) head reports.now }
+    ensures grounds { Grounds (R.carries rule.now) head reports.now result.0 result.1 }
+    ensures only { Only (R.carries rule.now) head reports.now result }
 {
     first_that_applies(rule, head, reports)
 }

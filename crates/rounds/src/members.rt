@@ -81,7 +81,7 @@ pub(crate) fn backed<R: QuorumRule>(
     reports: &[Option<Report>; 16],
     view: View,
 ) -> Option<Recorded>
-    ensures { result ≡ backed (carries rule.now) reports.now view }
+    ensures { result ≡ backed (R.carries rule.now) reports.now view }
 {
     for replica in 0..16u8 {
         let Some(report) = reported(reports, replica) else {

@@ -1,5 +1,5 @@
 -- The rules that every row keeps, beside its page. Assumes nothing.
-use Rattle.std.specs.Prelude.{ℕ, Bool, true, false, not, ◌&&◌, ◌||◌, List, Some, None, Option, ◌==◌, nat_le, nat_lt}
+use Rattle.std.specs.Prelude.{ℕ, Bool, true, false, not, ◌&&◌, List, Some, None, Option, ◌==◌, nat_le, nat_lt}
 use Rattle.quorum.specs.Below.{any, within}
 use Rattle.quorum.specs.Members.{has}
 use Rattle.quorum.specs.declared.set.ReplicaSet.{ReplicaSet}

@@ -15,5 +15,5 @@ pub fn runs_stand()
 
 // The three findings hold of every run of a floor by this rule, from its laws.
 pub fn runs_stand_for<R: QuorumRule>(rule: &R)
-    ensures { SafeRuns (carries rule.now) }
+    ensures { SafeRuns (R.carries rule.now) }
 {}

@@ -15,7 +15,6 @@ use Rattle.safety.specs.Rounds.{Clear, Low, Decides}
 use Rattle.safety.specs.Runs.{World, Step, done, Call, Run, world_at, Started}
 use Rattle.safety.proofs.Lists.{in_split}
 use Rattle.safety.proofs.Marks.{none_some, false_true, some_inj, view_inj}
-use Rattle.safety.proofs.Worlds.{here, by}
 use Rattle.std.proofs.lemmas.Bool.{eqb-true}
 use Rattle.quorum.specs.Members.{tally, one, majority}
 use Rattle.quorum.proofs.Bits.{has_high, has_single}

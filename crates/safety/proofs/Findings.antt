@@ -13,7 +13,6 @@ use Rattle.safety.proofs.History.Event.{records, installs, forms}
 use Rattle.safety.proofs.Invariant.{RowOk, Backed, Invariant}
 use Rattle.safety.proofs.Lists.{was_in}
 use Rattle.safety.proofs.Marks.{none_some, some_inj, view_inj}
-use Rattle.safety.proofs.Worlds.{by}
 use native.Mathlib.Nat.{max_comm}
 use Rattle.quorum.specs.Laws.{Within}
 use Rattle.quorum.specs.Sets.{both}
