@@ -14,9 +14,7 @@ use Rattle.rows.specs.Messages.{message_keeps}
 use Rattle.rows.specs.Rows.{row_keeps, is_normal}
 use Rattle.rows.specs.declared.message.Body.TheVariants.{State, Abort, Join, Report as Reports}
 use Rattle.rows.specs.declared.message.Message.{Message}
-use Rattle.rows.specs.declared.message.Posts.{Posts}
 use Rattle.rows.specs.declared.message.Posts.TheVariants.{Nothing}
-use Rattle.rows.specs.declared.row.Gathered.{Gathered}
 use Rattle.rows.specs.declared.row.Row.{Row}
 use Rattle.rows.specs.declared.row.Stage.{Stage}
 use Rattle.rows.specs.declared.row.Stage.TheVariants.{Idle, Gathering, Confirming, Applying, Entering, Round}

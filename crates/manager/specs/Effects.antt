@@ -1,30 +1,25 @@
 -- What a call leaves: recording, installing, settling, closing, and what judging comes to. Assumes nothing.
-use Rattle.std.specs.Prelude.{ℕ, ◌+◌, max, Bool, true, false, cond, List, set, replicate, Some, None, Option, nat_lt}
+use Rattle.std.specs.Prelude.{ℕ, ◌+◌, max, Bool, cond, Some, None, Option, nat_lt}
 use Rattle.quorum.specs.Members.{has}
-use Rattle.quorum.specs.Sets.{either, both, less, single}
+use Rattle.quorum.specs.Sets.{either, single}
 use Rattle.quorum.specs.declared.set.ReplicaSet.{ReplicaSet}
 use Rattle.rounds.specs.declared.outcome.Outcome.{Outcome}
-use Rattle.rounds.specs.declared.outcome.Outcome.TheVariants.{Spare}
-use Rattle.rounds.specs.declared.report.Report.{Report}
 use Rattle.stores.specs.declared.page.Mode.{Mode}
 use Rattle.stores.specs.declared.page.Mode.TheVariants.{Waiting, Joining, Normal, Reconfiguration}
 use Rattle.stores.specs.declared.page.Page.{Page}
 use Rattle.stores.specs.declared.view.Head.{Head}
 use Rattle.stores.specs.declared.view.Number.{Number}
 use Rattle.stores.specs.declared.view.Recorded.{Recorded as RecordedView}
-use Rattle.stores.specs.declared.view.Stamp.{Stamp}
 use Rattle.stores.specs.declared.view.View.{View}
 use Rattle.stores.specs.Views.{recorded as recorded_view}
 use Rattle.manager.specs.declared.answer.Answer.{Answer}
-use Rattle.rows.specs.declared.message.Body.{Body}
-use Rattle.rows.specs.declared.message.Body.TheVariants.{Recorded, Report as Reports}
+use Rattle.rows.specs.declared.message.Body.TheVariants.{Recorded}
 use Rattle.rows.specs.declared.message.Message.{Message}
 use Rattle.rows.specs.declared.message.Part.{Part}
 use Rattle.rows.specs.declared.message.Part.TheVariants.{Member, Newcomer}
 use Rattle.rows.specs.declared.message.Posts.{Posts}
 use Rattle.rows.specs.declared.message.Posts.TheVariants.{Nothing, One, Two}
 use Rattle.manager.specs.declared.need.Need.{Need}
-use Rattle.rows.specs.declared.row.Applied.{Applied}
 use Rattle.rows.specs.declared.row.Gathered.{Gathered}
 use Rattle.rows.specs.declared.row.Reference.{Reference}
 use Rattle.rows.specs.declared.row.Row.{Row}

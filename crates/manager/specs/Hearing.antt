@@ -1,11 +1,11 @@
 -- What each stage hears. Assumes nothing.
-use Rattle.std.specs.Prelude.{ℕ, ◌+◌, ◌-◌, Bool, true, false, cond, not, ◌&&◌, ◌||◌, List, set, is_some, Some, None, Ok, Err, Option, Result, ◌==◌, nat_le, nat_lt, slice_set}
+use Rattle.std.specs.Prelude.{ℕ, ◌+◌, ◌-◌, Bool, true, false, cond, not, ◌&&◌, List, is_some, Some, None, Ok, Err, Option, Result, ◌==◌, nat_le, nat_lt, slice_set}
 use Rattle.quorum.specs.Members.{has}
 use Rattle.quorum.specs.Sets.{either, less, single}
 use Rattle.quorum.specs.declared.fault.Reason.{Reason}
 use Rattle.quorum.specs.declared.fault.Reason.TheVariants.{NotHeard, HeardAlready}
 use Rattle.quorum.specs.declared.set.ReplicaSet.{ReplicaSet}
-use Rattle.rounds.specs.Reports.{reported, present}
+use Rattle.rounds.specs.Reports.{reported}
 use Rattle.rounds.specs.declared.report.Report.{Report}
 use Rattle.stores.specs.Views.{same_view}
 use Rattle.stores.specs.declared.page.Page.{Page}

@@ -1,7 +1,7 @@
 -- Judging a head, stage by stage. `f p s` says whether the part p carries the set s. Assumes nothing.
-use Rattle.std.specs.Prelude.{ℕ, ◌+◌, ◌/◌, Bool, true, false, cond, not, ◌&&◌, ◌||◌, List, is_some, Some, None, Option, ◌==◌, nat_lt}
+use Rattle.std.specs.Prelude.{ℕ, ◌+◌, ◌/◌, Bool, false, cond, not, List, is_some, Some, None, Option, ◌==◌, nat_lt}
 use Rattle.quorum.specs.Below.{select, within}
-use Rattle.quorum.specs.Members.{has, size}
+use Rattle.quorum.specs.Members.{size}
 use Rattle.quorum.specs.Sets.{either, both, less, single}
 use Rattle.rounds.specs.Decision.{decided}
 use Rattle.rounds.specs.Reports.{reported}

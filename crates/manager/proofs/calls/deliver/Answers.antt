@@ -1,4 +1,4 @@
-use Rattle.std.proofs.Common.{Ok, sym, ap, ◌∙◌}
+use Rattle.std.proofs.Common.{sym, ap, ◌∙◌}
 use Rattle.std.proofs.lemmas.Result.{err_from_is_err_and}
 use Rattle.manager.specs.Calls.{delivered, answer_of, page_left, row_left}
 use Rattle.manager.proofs.Refusing.{delivery_refused, delivery_allowed}

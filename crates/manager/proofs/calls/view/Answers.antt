@@ -1,4 +1,4 @@
-use Rattle.std.proofs.Common.{Ok, sym, ap, ◌∙◌, rules}
+use Rattle.std.proofs.Common.{Ok, sym, ap, ◌∙◌}
 use Rattle.std.proofs.lemmas.Result.{err_from_is_err_and}
 use Rattle.manager.specs.Calls.{viewed, answer_of, page_left, row_left}
 use Rattle.manager.proofs.Refusing.{when_refused, when_allowed}
