@@ -8,7 +8,7 @@ use Rattle.quorum.specs.declared.fault.Reason.TheVariants.{NoSuchReplica, WrongP
 use Rattle.bridge.proofs.Calls.{refines}
 use Rattle.bridge.specs.Refines.{MovesTo, CallsMove}
 use Rattle.bridge.specs.Seen.{seen_post, settlement_of, formed_by, node_of}
-use Rattle.manager.specs.Calls.{head_of, message_refusal, start_refusal, unless_refused, empty_row, started, viewed, delivered, lost_at, started_at}
+use Rattle.manager.specs.Calls.{head_of, message_refusal, start_refusal, unless_refused, empty_row, started, viewed, lost_at, started_at}
 use Rattle.manager.specs.Effects.{Effect, effect, in_mode}
 use Rattle.rounds.specs.declared.outcome.Outcome.{Outcome}
 use Rattle.rows.specs.declared.message.Message.{Message}

@@ -1,5 +1,5 @@
 -- An accepted founding is one to run from. Assumes nothing.
-use Rattle.std.proofs.Common.{◌≡◌, ℕ, ◌^◌, ◌<◌, Bool, true, false, not, ◌||◌, eqb, ltb, ◌⊎◌, List, length, Some, None, Ok, Option, sym, refl, ⊎_elim}
+use Rattle.std.proofs.Common.{◌≡◌, ℕ, ◌^◌, ◌<◌, Bool, true, false, not, ◌||◌, eqb, ltb, List, length, Some, None, Ok, Option, sym, refl, ⊎_elim}
 use Rattle.std.proofs.lemmas.Bool.{both_ways, cases_Bool, cases_lt, or_parts}
 use Rattle.quorum.proofs.Below.{any_some, any_none}
 use Rattle.quorum.proofs.Bits.{has_high}

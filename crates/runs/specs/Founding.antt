@@ -1,5 +1,5 @@
 -- A new floor, and its founding. Assumes nothing.
-use Rattle.std.specs.Prelude.{◌≡◌, ℕ, ◌<◌, ◌≤◌, Bool, true, false, cond, not, ◌&&◌, ◌||◌, List, [], is_some, Some, None, Option, ◌==◌, nat_lt, slice_index_or}
+use Rattle.std.specs.Prelude.{◌≡◌, ℕ, ◌<◌, Bool, true, false, cond, not, ◌&&◌, ◌||◌, List, [], is_some, Some, None, Option, ◌==◌, nat_lt, slice_index_or}
 use Rattle.quorum.specs.Below.{any, or_else}
 use Rattle.quorum.specs.Members.{has}
 use Rattle.quorum.specs.declared.fault.Fault.{Fault}

@@ -1,5 +1,5 @@
 -- The floor's calls: what each does to pages, rows and post, or why it is refused. Assumes nothing.
-use Rattle.std.specs.Prelude.{◌≡◌, ℕ, ◌<◌, ◌≤◌, Bool, true, false, cond, not, ◌&&◌, ◌||◌, ◌⊎◌, List, [], ◌∷◌, ◌++◌, length, Some, None, Ok, Err, Option, Result, ◌==◌, nat_le, nat_lt, slice_index_or, slice_set}
+use Rattle.std.specs.Prelude.{◌≡◌, ℕ, ◌<◌, Bool, true, false, cond, not, ◌⊎◌, List, [], ◌∷◌, ◌++◌, length, Some, None, Ok, Err, Option, Result, ◌==◌, nat_le, nat_lt, slice_index_or, slice_set}
 use Rattle.quorum.specs.Below.{or_else}
 use Rattle.quorum.specs.declared.fault.Failure.{Failure}
 use Rattle.quorum.specs.declared.fault.Failure.TheVariants.{Refused, NoMemory}
@@ -7,7 +7,7 @@ use Rattle.quorum.specs.declared.fault.Fault.{Fault}
 use Rattle.quorum.specs.declared.fault.Layer.TheVariants.{Floor}
 use Rattle.quorum.specs.declared.fault.Reason.{Reason}
 use Rattle.quorum.specs.declared.fault.Reason.TheVariants.{NoSuchReplica, WrongPower, NoSuchMessage, PostFull}
-use Rattle.manager.specs.Calls.{message_refusal, viewed, delivered, lost_at, stopped_at, started_at, empty_row}
+use Rattle.manager.specs.Calls.{message_refusal, viewed, delivered, lost_at, started_at, empty_row}
 use Rattle.manager.specs.Effects.{Effect}
 use Rattle.manager.specs.declared.answer.Answer.{Answer}
 use Rattle.manager.specs.declared.need.Need.{Need}
@@ -19,7 +19,6 @@ use Rattle.rows.specs.declared.row.Row.{Row}
 use Rattle.stores.specs.Kept.{page_at, Spent, no_place}
 use Rattle.stores.specs.Views.{head}
 use Rattle.stores.specs.declared.page.Page.{Page}
-use Rattle.stores.specs.declared.view.Head.{Head}
 use Rattle.runs.specs.Founding.{row_at}
 use Rattle.runs.specs.declared.work.Work.{Work}
 use Rattle.runs.specs.declared.work.Work.TheVariants.{View, Deliver, Loss, Start}
