@@ -1,7 +1,7 @@
 -- Calls made one after another are a run. Assumes nothing.
-use Rattle.std.proofs.Common.{◌≡◌, ℕ, Bool, List, [], ◌∷◌, ◌++◌, map, sym, refl, ap, ◌∙◌, subst}
+use Rattle.std.proofs.Common.{◌≡◌, ℕ, Bool, List, [], ◌∷◌, ◌++◌, map, refl, ap, ◌∙◌}
 use Rattle.runs.proofs.Runs.{run_step, end_step}
-use Rattle.runs.specs.Runs.{Taken, Run, end_of}
+use Rattle.runs.specs.Runs.{Taken}
 use Rattle.runs.specs.Steps.{Step}
 use Rattle.runs.specs.World.{World}
 use Rattle.runs.specs.declared.work.Call.{Call}

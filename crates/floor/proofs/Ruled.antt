@@ -1,12 +1,12 @@
 -- From the floor's and the manager's answers to what a call does. Assumes nothing.
-use Rattle.std.proofs.Common.{◌≡◌, ℕ, ◌<◌, ◌≤◌, Bool, true, false, cond, ◌&&◌, eqb, leb, ◌⊎◌, List, [], ◌++◌, length, get_or, set, is_ok, IfOk, Some, None, Ok, Err, Option, Result, sym, refl, ap, ◌∙◌, subst, ⊎_elim, append-nil, arith, MatchResult}
-use Rattle.std.proofs.lemmas.Bool.{eq-eqb, ne_eqb, false≢true, true≢false}
+use Rattle.std.proofs.Common.{◌≡◌, ℕ, ◌<◌, Bool, true, false, cond, ◌&&◌, eqb, leb, ◌⊎◌, [], ◌++◌, length, set, is_ok, IfOk, Some, None, Ok, Err, Option, Result, sym, refl, ap, ◌∙◌, subst, ⊎_elim, append-nil, arith, MatchResult}
+use Rattle.std.proofs.lemmas.Bool.{eq-eqb, ne_eqb}
 use Rattle.quorum.specs.Below.{or_else}
 use Rattle.quorum.specs.declared.fault.Failure.{Failure}
 use Rattle.quorum.specs.declared.fault.Failure.TheVariants.{Refused, NoMemory}
 use Rattle.quorum.specs.declared.fault.Fault.{Fault}
 use Rattle.quorum.specs.declared.fault.Reason.TheVariants.{PostFull, NoSuchMessage}
-use Rattle.manager.specs.Calls.{allowed, answer_of, page_left, row_left, viewed, delivered, lost_at, started_at, stopped_at, call_refusal, unless_refused, empty_row}
+use Rattle.manager.specs.Calls.{allowed, answer_of, viewed, lost_at, started_at, stopped_at, call_refusal, unless_refused, empty_row}
 use Rattle.manager.specs.Effects.{Effect, effect}
 use Rattle.manager.specs.declared.answer.Answer.{Answer}
 use Rattle.manager.specs.declared.need.Need.{Need}
@@ -15,8 +15,7 @@ use Rattle.laws.proofs.Calls.{viewed_keeps, delivered_keeps, lost_keeps, started
 use Rattle.rows.specs.declared.message.Message.{Message}
 use Rattle.rows.specs.declared.message.Posts.TheVariants.{Nothing}
 use Rattle.rows.specs.declared.row.Row.{Row}
-use Rattle.runs.specs.Founding.{row_at}
-use Rattle.runs.specs.World.{World, replica_of, floor_refusal, unless, message_at, up_test, down_test, loss_test, delivery_test, page_of, row_of, delivered_or_not, asked, full, placed, ruled, listed, Posted, unit_of, Changed, Same, Broken, Did}
+use Rattle.runs.specs.World.{World, replica_of, floor_refusal, unless, message_at, up_test, down_test, loss_test, delivery_test, page_of, row_of, delivered_or_not, asked, full, placed, ruled, listed, Posted, unit_of, Same, Broken, Did}
 use Rattle.runs.specs.declared.work.Work.{Work}
 use Rattle.runs.specs.declared.work.Work.TheVariants as works
 use Rattle.stores.specs.Kept.{Spent, no_place}

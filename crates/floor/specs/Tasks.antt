@@ -1,5 +1,5 @@
 -- The floor's part in a call: it refuses, or hands a task to the manager. Assumes nothing.
-use Rattle.std.specs.Prelude.{ℕ, Bool, true, false, cond, leb, List, Some, None, Ok, Err, Option, Result}
+use Rattle.std.specs.Prelude.{ℕ, Bool, true, false, List, Some, None, Ok, Err, Option, Result}
 use Rattle.quorum.specs.declared.fault.Failure.{Failure}
 use Rattle.quorum.specs.declared.fault.Failure.TheVariants.{Refused}
 use Rattle.quorum.specs.declared.fault.Fault.{Fault}

@@ -5,7 +5,7 @@ use Rattle.stores.specs.declared.page.Page.{Page}
 use Rattle.runs.specs.Founding.{FoundedPages}
 use Rattle.floor.proofs.Pages.{founding_keeps, founded_none, founded_write, founded_skip}
 use Rattle.floor.proofs.founding.write_founding.Goals as goal
-use Rattle.floor.proofs.founding.write_founding.Goals.{then-contains+in-ok-write, else-contains}
+use Rattle.floor.proofs.founding.write_founding.Goals.{then-contains+in_ok-write, else-contains}
 
 pub write-requires : goal.write-requires
 write-requires g c =
@@ -25,7 +25,7 @@ loop-replica-preserved g c =
     let before = g.S.Store.pages c.args.store.now in
     let Done : g.row.S.Denot → Type 0 = λ s. (16 ≤ g.S.Store.places s + (k + 1)) × FoundedPages v before (k + 1) (g.S.Store.pages s) in
     elim c.if-contains.branch [
-      | then-contains+in-ok-write w ↦
+      | then-contains+in_ok-write w ↦
           let wrote = w.in_ok-write.ensures in
           let member : has v.set.0 k ≡ true = sym c.contains.ensures.test ∙ w.if-contains.true in
           let pages = founded_write v before (g.S.Store.pages c.loop-replica.store) k (g.met.S.Store.sixteen c.loop-replica.store) c.loop-replica-test.true member c.loop-replica.invariant.1 in

@@ -1,15 +1,13 @@
-use Rattle.std.proofs.Common.{◌≡◌, ℕ, ◌<◌, Bool, false, cond, ◌&&◌, leb, List, [], ◌++◌, length, set, is_ok, Ok, vec_items, Result, sym, refl, ap, ◌∙◌, subst, rules, MatchResult}
+use Rattle.std.proofs.Common.{◌≡◌, ℕ, ◌<◌, false, cond, ◌&&◌, leb, [], ◌++◌, length, set, is_ok, vec_items, Result, sym, refl, ap, ◌∙◌, subst, MatchResult}
 use Rattle.std.proofs.lemmas.List.{set-set, set-get_or}
 use Rattle.std.proofs.lemmas.Result.{err_from_is_err_and, IfOk-weaker}
 use Rattle.quorum.specs.declared.fault.Fault.{Fault}
 use Rattle.manager.specs.Calls.{page_left, row_left, empty_row}
 use Rattle.manager.specs.Effects.{Effect}
-use Rattle.rows.specs.declared.row.Row.{Row}
 use Rattle.runs.specs.Founding.{row_at}
 use Rattle.runs.specs.World.{World, replica_of, page_of, row_of, listed, Posted, unit_of}
 use Rattle.stores.specs.Kept.{page_at, Spent}
 use Rattle.stores.specs.Rules.{keeps_rules}
-use Rattle.stores.specs.declared.page.Page.{Page}
 use Rattle.floor.specs.Tasks.{managed}
 use Rattle.floor.proofs.Ruled.{floor_refuses, ruled_refused, asked_managed, managed_refused, managed_accepted, managed_keeps, finishes_did}
 use Rattle.floor.proofs.floor.Floor.carry_out.Goals as goal
@@ -17,14 +15,14 @@ use Rattle.floor.proofs.floor.Floor.carry_out.Goals as goal
 pub returns-in_err-task : goal.returns-in_err-task
 returns-in_err-task g c =
     let f = g.R.QuorumRule.carries c.args.self.now.rule in
-    let w : World = record { pages = g.S.Store.pages c.args.self.now.store; places = g.S.Store.places c.args.self.now.store; rows = c.args.self.now.table.rows; post = vec_items c.args.post.now; goal = c.args.self.now.need } in
+    let w : World = record { pages = g.S.Store.pages c.args.self.now.store; places = g.S.Store.places c.args.self.now.store; rows = c.args.self.now.table.rows; post = vec_items c.args.post.now; need = c.args.self.now.need } in
     let e = err_from_is_err_and c.from_residual.result c.from_residual.ensures.1 in
     rw (e.1, e.2) (record { did = (floor_refuses f w c.args.work _ c.in_err-task.ensures.test, record { pages_are = refl; rows_are = refl; post_is = refl; places_are = refl; need_is = refl }); rule = refl })
 
 pub returns-in_err-answer : goal.returns-in_err-answer
 returns-in_err-answer g c =
     let f = g.R.QuorumRule.carries c.args.self.now.rule in
-    let w : World = record { pages = g.S.Store.pages c.args.self.now.store; places = g.S.Store.places c.args.self.now.store; rows = c.args.self.now.table.rows; post = vec_items c.args.post.now; goal = c.args.self.now.need } in
+    let w : World = record { pages = g.S.Store.pages c.args.self.now.store; places = g.S.Store.places c.args.self.now.store; rows = c.args.self.now.table.rows; post = vec_items c.args.post.now; need = c.args.self.now.need } in
     let k = c.args.work in
     let t = c.in_ok-task.task in
     let r = c.replica_of-replica.result in
@@ -66,8 +64,8 @@ finish-requires g c =
 pub returns : goal.returns
 returns g c =
     let f = g.R.QuorumRule.carries c.args.self.now.rule in
-    let w : World = record { pages = g.S.Store.pages c.args.self.now.store; places = g.S.Store.places c.args.self.now.store; rows = c.args.self.now.table.rows; post = vec_items c.args.post.now; goal = c.args.self.now.need } in
-    let v : World = record { pages = g.S.Store.pages c.finish.new.self.store; places = g.S.Store.places c.finish.new.self.store; rows = c.finish.new.self.table.rows; post = vec_items c.finish.new.post; goal = c.finish.new.self.need } in
+    let w : World = record { pages = g.S.Store.pages c.args.self.now.store; places = g.S.Store.places c.args.self.now.store; rows = c.args.self.now.table.rows; post = vec_items c.args.post.now; need = c.args.self.now.need } in
+    let v : World = record { pages = g.S.Store.pages c.finish.new.self.store; places = g.S.Store.places c.finish.new.self.store; rows = c.finish.new.self.table.rows; post = vec_items c.finish.new.post; need = c.finish.new.self.need } in
     let k = c.args.work in
     let t = c.in_ok-task.task in
     let r = c.replica_of-replica.result in

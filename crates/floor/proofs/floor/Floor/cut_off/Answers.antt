@@ -1,12 +1,11 @@
-use Rattle.std.proofs.Common.{◌≡◌, ℕ, ◌<◌, Bool, false, cond, ◌&&◌, leb, ◌⊎◌, List, [], ◌++◌, length, set, is_ok, Ok, Err, vec_items, Result, sym, refl, ap, ◌∙◌, subst, rules, MatchResult}
+use Rattle.std.proofs.Common.{◌≡◌, ℕ, ◌<◌, false, ◌&&◌, leb, ◌⊎◌, length, set, Ok, Err, vec_items, Result, sym, refl, ap, ◌∙◌, subst}
 use Rattle.std.proofs.lemmas.List.{set-set, set-get_or}
 use Rattle.std.proofs.lemmas.Result.{err_from_is_err_and}
 use Rattle.quorum.specs.declared.fault.Fault.{Fault}
 use Rattle.manager.specs.Calls.{page_left, row_left, empty_row}
 use Rattle.manager.specs.Effects.{Effect}
-use Rattle.rows.specs.declared.row.Row.{Row}
 use Rattle.runs.specs.Founding.{row_at}
-use Rattle.runs.specs.World.{World, replica_of, page_of, row_of, listed, Posted, unit_of}
+use Rattle.runs.specs.World.{World, replica_of, page_of, row_of, Posted}
 use Rattle.stores.specs.Kept.{page_at, Spent}
 use Rattle.stores.specs.Rules.{keeps_rules}
 use Rattle.stores.specs.declared.page.Page.{Page}
@@ -17,14 +16,14 @@ use Rattle.floor.proofs.floor.Floor.cut_off.Goals as goal
 pub returns-in_err-task : goal.returns-in_err-task
 returns-in_err-task g c =
     let f = g.R.QuorumRule.carries c.args.self.now.rule in
-    let w : World = record { pages = g.S.Store.pages c.args.self.now.store; places = g.S.Store.places c.args.self.now.store; rows = c.args.self.now.table.rows; post = vec_items c.args.post.now; goal = c.args.self.now.need } in
+    let w : World = record { pages = g.S.Store.pages c.args.self.now.store; places = g.S.Store.places c.args.self.now.store; rows = c.args.self.now.table.rows; post = vec_items c.args.post.now; need = c.args.self.now.need } in
     let e = err_from_is_err_and c.from_residual.result c.from_residual.ensures.1 in
     rw (e.1, e.2) (record { cut = (floor_refuses f w c.args.work _ c.in_err-task.ensures.test, record { pages_are = refl; rows_are = refl; post_is = refl; places_are = refl; need_is = refl }); rule = refl })
 
 pub returns-in_err-lend : goal.returns-in_err-lend
 returns-in_err-lend g c =
     let f = g.R.QuorumRule.carries c.args.self.now.rule in
-    let w : World = record { pages = g.S.Store.pages c.args.self.now.store; places = g.S.Store.places c.args.self.now.store; rows = c.args.self.now.table.rows; post = vec_items c.args.post.now; goal = c.args.self.now.need } in
+    let w : World = record { pages = g.S.Store.pages c.args.self.now.store; places = g.S.Store.places c.args.self.now.store; rows = c.args.self.now.table.rows; post = vec_items c.args.post.now; need = c.args.self.now.need } in
     let k = c.args.work in
     let t = c.in_ok-task.task in
     let r = c.replica_of-replica.result in
@@ -65,8 +64,8 @@ break_off-requires g c =
 pub returns-in_err-break_off : goal.returns-in_err-break_off
 returns-in_err-break_off g c =
     let f = g.R.QuorumRule.carries c.args.self.now.rule in
-    let w : World = record { pages = g.S.Store.pages c.args.self.now.store; places = g.S.Store.places c.args.self.now.store; rows = c.args.self.now.table.rows; post = vec_items c.args.post.now; goal = c.args.self.now.need } in
-    let v : World = record { pages = g.S.Store.pages c.break_off.new.self.store; places = g.S.Store.places c.break_off.new.self.store; rows = c.break_off.new.self.table.rows; post = vec_items c.args.post.now; goal = c.break_off.new.self.need } in
+    let w : World = record { pages = g.S.Store.pages c.args.self.now.store; places = g.S.Store.places c.args.self.now.store; rows = c.args.self.now.table.rows; post = vec_items c.args.post.now; need = c.args.self.now.need } in
+    let v : World = record { pages = g.S.Store.pages c.break_off.new.self.store; places = g.S.Store.places c.break_off.new.self.store; rows = c.break_off.new.self.table.rows; post = vec_items c.args.post.now; need = c.break_off.new.self.need } in
     let k = c.args.work in
     let t = c.in_ok-task.task in
     let r = c.replica_of-replica.result in
@@ -98,8 +97,8 @@ returns-in_err-break_off g c =
 pub returns : goal.returns
 returns g c =
     let f = g.R.QuorumRule.carries c.args.self.now.rule in
-    let w : World = record { pages = g.S.Store.pages c.args.self.now.store; places = g.S.Store.places c.args.self.now.store; rows = c.args.self.now.table.rows; post = vec_items c.args.post.now; goal = c.args.self.now.need } in
-    let v : World = record { pages = g.S.Store.pages c.break_off.new.self.store; places = g.S.Store.places c.break_off.new.self.store; rows = c.break_off.new.self.table.rows; post = vec_items c.args.post.now; goal = c.break_off.new.self.need } in
+    let w : World = record { pages = g.S.Store.pages c.args.self.now.store; places = g.S.Store.places c.args.self.now.store; rows = c.args.self.now.table.rows; post = vec_items c.args.post.now; need = c.args.self.now.need } in
+    let v : World = record { pages = g.S.Store.pages c.break_off.new.self.store; places = g.S.Store.places c.break_off.new.self.store; rows = c.break_off.new.self.table.rows; post = vec_items c.args.post.now; need = c.break_off.new.self.need } in
     let k = c.args.work in
     let t = c.in_ok-task.task in
     let r = c.replica_of-replica.result in

@@ -1,11 +1,10 @@
-use Rattle.std.proofs.Common.{◌≡◌, false, set, sym, refl, ap, ◌∙◌}
+use Rattle.std.proofs.Common.{set, sym, refl, ap, ◌∙◌}
 use Rattle.std.proofs.lemmas.List.{set-get_or}
 use Rattle.std.proofs.lemmas.Result.{err_from_is_err_and}
-use Rattle.manager.specs.Calls.{row_left, stopped_at, empty_row}
-use Rattle.rows.specs.declared.row.Row.{Row}
+use Rattle.manager.specs.Calls.{row_left, stopped_at}
 use Rattle.runs.specs.Founding.{row_at}
-use Rattle.runs.specs.World.{up_test, unless}
-use Rattle.floor.proofs.Ruled.{managed_refused, managed_accepted, stop_is, test_refuses, test_allows}
+use Rattle.runs.specs.World.{up_test}
+use Rattle.floor.proofs.Ruled.{managed_refused, managed_accepted, stop_is, test_allows}
 use Rattle.floor.proofs.floor.Floor.halt.Goals as goal
 
 pub returns-in_err-answer : goal.returns-in_err-answer

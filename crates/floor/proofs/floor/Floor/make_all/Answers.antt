@@ -1,4 +1,4 @@
-use Rattle.std.proofs.Common.{◌≡◌, ℕ, ◌+◌, List, [], ◌∷◌, ◌++◌, get_or, take, vec_items, sym, refl, ap, ◌∙◌, subst}
+use Rattle.std.proofs.Common.{◌≡◌, ◌+◌, List, [], ◌∷◌, ◌++◌, take, vec_items, sym, refl, ap, ◌∙◌, subst}
 use Rattle.std.proofs.lemmas.List.{take_more, take_all}
 use Rattle.runs.specs.Runs.{Taken}
 use Rattle.runs.specs.Steps.{Step}
@@ -16,9 +16,9 @@ pub loop-i-preserved : goal.loop-i-preserved
 loop-i-preserved g c =
     let rule = c.args.self.now.rule in
     let f = g.R.QuorumRule.carries rule in
-    let w : World = record { pages = g.S.Store.pages c.args.self.now.store; places = g.S.Store.places c.args.self.now.store; rows = c.args.self.now.table.rows; post = vec_items c.args.post.now; goal = c.args.self.now.need } in
-    let v : World = record { pages = g.S.Store.pages c.loop-i.self.store; places = g.S.Store.places c.loop-i.self.store; rows = c.loop-i.self.table.rows; post = vec_items c.loop-i.post; goal = c.loop-i.self.need } in
-    let u : World = record { pages = g.S.Store.pages c.step.new.self.store; places = g.S.Store.places c.step.new.self.store; rows = c.step.new.self.table.rows; post = vec_items c.step.new.post; goal = c.step.new.self.need } in
+    let w : World = record { pages = g.S.Store.pages c.args.self.now.store; places = g.S.Store.places c.args.self.now.store; rows = c.args.self.now.table.rows; post = vec_items c.args.post.now; need = c.args.self.now.need } in
+    let v : World = record { pages = g.S.Store.pages c.loop-i.self.store; places = g.S.Store.places c.loop-i.self.store; rows = c.loop-i.self.table.rows; post = vec_items c.loop-i.post; need = c.loop-i.self.need } in
+    let u : World = record { pages = g.S.Store.pages c.step.new.self.store; places = g.S.Store.places c.step.new.self.store; rows = c.step.new.self.table.rows; post = vec_items c.step.new.post; need = c.step.new.self.need } in
     let i = c.loop-i.i in
     let calls = c.args.calls.now in
     let same = c.loop-i.invariant.1 in
@@ -34,8 +34,8 @@ pub returns : goal.returns
 returns g c =
     let rule = c.args.self.now.rule in
     let f = g.R.QuorumRule.carries rule in
-    let w : World = record { pages = g.S.Store.pages c.args.self.now.store; places = g.S.Store.places c.args.self.now.store; rows = c.args.self.now.table.rows; post = vec_items c.args.post.now; goal = c.args.self.now.need } in
-    let v : World = record { pages = g.S.Store.pages c.loop-i.self.store; places = g.S.Store.places c.loop-i.self.store; rows = c.loop-i.self.table.rows; post = vec_items c.loop-i.post; goal = c.loop-i.self.need } in
+    let w : World = record { pages = g.S.Store.pages c.args.self.now.store; places = g.S.Store.places c.args.self.now.store; rows = c.args.self.now.table.rows; post = vec_items c.args.post.now; need = c.args.self.now.need } in
+    let v : World = record { pages = g.S.Store.pages c.loop-i.self.store; places = g.S.Store.places c.loop-i.self.store; rows = c.loop-i.self.table.rows; post = vec_items c.loop-i.post; need = c.loop-i.self.need } in
     record {
       ran = subst (λ (cs : List Call). Ran f w v cs) (take_all c.loop-i.i c.args.calls.now c.loop-i-test.false) c.loop-i.invariant.0;
       rule = c.loop-i.invariant.1;

@@ -1,4 +1,4 @@
-use Rattle.std.proofs.Common.{◌≡◌, sym, subst}
+use Rattle.std.proofs.Common.{sym, subst}
 use Rattle.runs.proofs.Findings.{runs_on_safe}
 use Rattle.runs.specs.Runs.{Run}
 use Rattle.runs.specs.World.{World}
