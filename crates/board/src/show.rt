@@ -188,6 +188,7 @@ pub fn stage_name(stage: Stage) -> &'static str {
 mod tests {
     use super::*;
     use quorum::ReplicaSet;
+    use std::process::Abort;
     use std::test::*;
     use stores::Stamp;
 
@@ -229,21 +230,26 @@ mod tests {
         }
     }
 
-    fn check_message(rt: HostRuntime, sender: u8, body: Body, expected: &str) -> Result<(), Fail> {
+    fn check_message<R: Abort + AllocGlobal>(
+        rt: &R,
+        sender: u8,
+        body: Body,
+        expected: &str,
+    ) -> Result<(), Fail> {
         let head = Head {
             stamp: Stamp(40),
             set: ReplicaSet(0b100_0110),
         };
         let shown = Shown(Message { sender, head, body });
         let text = format!(in rt.alloc(); "{shown}")?;
-        assert_eq!(text.as_str(), expected);
+        assert_eq!(rt; text.as_str(), expected);
         Ok(())
     }
 
     #[test]
     fn state(rt: HostRuntime) -> Result<(), Fail> {
         check_message(
-            rt,
+            &rt,
             1,
             Body::State(view_seven(), ReplicaSet(0b110)),
             "State from 1 under 40 {1,2,6}, component 7 {1,2,3}, survivors {1,2}",
@@ -252,18 +258,18 @@ mod tests {
 
     #[test]
     fn abort(rt: HostRuntime) -> Result<(), Fail> {
-        check_message(rt, 1, Body::Abort, "Abort from 1 under 40 {1,2,6}")
+        check_message(&rt, 1, Body::Abort, "Abort from 1 under 40 {1,2,6}")
     }
 
     #[test]
     fn join(rt: HostRuntime) -> Result<(), Fail> {
-        check_message(rt, 6, Body::Join, "Join from 6 under 40 {1,2,6}")
+        check_message(&rt, 6, Body::Join, "Join from 6 under 40 {1,2,6}")
     }
 
     #[test]
     fn recorded_as_newcomer(rt: HostRuntime) -> Result<(), Fail> {
         check_message(
-            rt,
+            &rt,
             6,
             Body::Recorded(Number(8), Part::Newcomer),
             "Recorded from 6 under 40 {1,2,6}, view 8 as newcomer",
@@ -273,7 +279,7 @@ mod tests {
     #[test]
     fn recorded_as_member(rt: HostRuntime) -> Result<(), Fail> {
         check_message(
-            rt,
+            &rt,
             1,
             Body::Recorded(Number(8), Part::Member),
             "Recorded from 1 under 40 {1,2,6}, view 8 as member",
@@ -296,7 +302,7 @@ mod tests {
             }),
         };
         check_message(
-            rt,
+            &rt,
             1,
             Body::Report(report),
             "Report from 1 under 40 {1,2,6}, reconfiguration, mark 8, component 7 {1,2,3}, recorded 8 {1,2,6} stamp 39",
@@ -312,7 +318,7 @@ mod tests {
             recorded: None,
         };
         check_message(
-            rt,
+            &rt,
             2,
             Body::Report(report),
             "Report from 2 under 40 {1,2,6}, normal, mark none, component none, recorded none",
