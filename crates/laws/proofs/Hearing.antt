@@ -83,7 +83,7 @@ module _ (r : ℕ) (p : Page) (head : Option Head) (up : Bool) (lost : ReplicaSe
   heard true true s k x = tt
   heard true false s k x = x
 
-  module _ (tests : Tests r p) (h : Head) (q : ℕ) (open-head : head ≡ Some h) (sender : has h.set.0 q ≡ true) where
+  module _ (tests : Tests r p) (h : Head) (q : ℕ) (open_head : head ≡ Some h) (sender : has h.set.0 q ≡ true) where
     added : (s : ReplicaSet) → within s.0 h.set.0 ≡ true → within (either s.0 (single q)) h.set.0 ≡ true
     added s i = within_added s.0 h.set.0 q i sender
 
@@ -100,7 +100,7 @@ module _ (r : ℕ) (p : Page) (head : Option Head) (up : Bool) (lost : ReplicaSe
         (record {
           stage = gathering_back r p h (gathered_state g q)
               (record { normal = f.normal; head = f.head; next = f.next; later = f.later; states = added g.states f.states; members = f.members; newcomers = f.newcomers });
-          same = open-head;
+          same = open_head;
           hearing = tt;
         })
     gathering_hears survivors g Abort f = tt
@@ -110,7 +110,7 @@ module _ (r : ℕ) (p : Page) (head : Option Head) (up : Bool) (lost : ReplicaSe
         (record {
           stage = gathering_back r p h (gathered_recorded g q Member)
               (record { normal = f.normal; head = f.head; next = f.next; later = f.later; states = f.states; members = added g.members f.members; newcomers = f.newcomers });
-          same = open-head;
+          same = open_head;
           hearing = tt;
         })
     gathering_hears survivors g (Recorded n Newcomer) f =
@@ -118,7 +118,7 @@ module _ (r : ℕ) (p : Page) (head : Option Head) (up : Bool) (lost : ReplicaSe
         (record {
           stage = gathering_back r p h (gathered_recorded g q Newcomer)
               (record { normal = f.normal; head = f.head; next = f.next; later = f.later; states = f.states; members = f.members; newcomers = added g.newcomers f.newcomers });
-          same = open-head;
+          same = open_head;
           hearing = tt;
         })
     gathering_hears survivors g (Reports m) f =
@@ -126,7 +126,7 @@ module _ (r : ℕ) (p : Page) (head : Option Head) (up : Bool) (lost : ReplicaSe
         (record {
           stage = gathering_back r p h (gathered_answer g)
               (record { normal = f.normal; head = f.head; next = f.next; later = f.later; states = f.states; members = f.members; newcomers = f.newcomers });
-          same = open-head;
+          same = open_head;
           hearing = answer f.head.holds (ap reporting_mode (mode_normal p.mode f.normal)) f.later;
         })
 
@@ -140,7 +140,7 @@ module _ (r : ℕ) (p : Page) (head : Option Head) (up : Bool) (lost : ReplicaSe
         (record {
           stage = confirming_back r p h (confirmed_recorded g q Member)
               (record { normal = f.normal; head = f.head; under = f.under; members = added g.members f.members; newcomers = f.newcomers });
-          same = open-head;
+          same = open_head;
           hearing = tt;
         })
     confirming_hears g (Recorded n Newcomer) f =
@@ -148,14 +148,14 @@ module _ (r : ℕ) (p : Page) (head : Option Head) (up : Bool) (lost : ReplicaSe
         (record {
           stage = confirming_back r p h (confirmed_recorded g q Newcomer)
               (record { normal = f.normal; head = f.head; under = f.under; members = f.members; newcomers = added g.newcomers f.newcomers });
-          same = open-head;
+          same = open_head;
           hearing = tt;
         })
     confirming_hears g (Reports m) f =
         heard (is_reconfiguration m.mode) g.answered (Confirming h (confirmed_answer g)) Answered
         (record {
           stage = confirming_back r p h (confirmed_answer g) (record { normal = f.normal; head = f.head; under = f.under; members = f.members; newcomers = f.newcomers });
-          same = open-head;
+          same = open_head;
           hearing = answer f.head.holds (ap reporting_mode (mode_normal p.mode f.normal)) (under_not_later h p.recorded f.under);
         })
 
@@ -172,16 +172,16 @@ module _ (r : ℕ) (p : Page) (head : Option Head) (up : Bool) (lost : ReplicaSe
         (record {
           stage = applying_back r p h (applied_state a q c s)
               (record { waiting = f.waiting; head = f.head; reference = reference_fixed a.reference c s f.reference y.0; sources = f.sources; joins = f.joins; states = added a.states f.states });
-          same = open-head;
+          same = open_head;
           hearing = tt;
         })
-    applying_hears a Abort k f = record { stage = applying_back r p h a f; same = open-head; hearing = ap is_joining (mode_waiting p.mode f.waiting) }
+    applying_hears a Abort k f = record { stage = applying_back r p h a f; same = open_head; hearing = ap is_joining (mode_waiting p.mode f.waiting) }
     applying_hears a Join k f =
         heard (not (is_some a.reference)) (has a.joins.0 q) (Applying h (applied_join a q)) Heard
         (record {
           stage = applying_back r p h (applied_join a q)
               (record { waiting = f.waiting; head = f.head; reference = f.reference; sources = within_less a.sources.0 (single q) h.set.0 f.sources; joins = added a.joins f.joins; states = f.states });
-          same = open-head;
+          same = open_head;
           hearing = tt;
         })
     applying_hears a (Recorded n part) k f = tt
@@ -197,7 +197,7 @@ module _ (r : ℕ) (p : Page) (head : Option Head) (up : Bool) (lost : ReplicaSe
         (record {
           stage = entering_back r p h (entered_recorded e q Member)
               (record { joining = f.joining; head = f.head; under = f.under; reference = f.reference; members = added e.members f.members; newcomers = f.newcomers });
-          same = open-head;
+          same = open_head;
           hearing = tt;
         })
     entering_hears e (Recorded n Newcomer) f =
@@ -205,7 +205,7 @@ module _ (r : ℕ) (p : Page) (head : Option Head) (up : Bool) (lost : ReplicaSe
         (record {
           stage = entering_back r p h (entered_recorded e q Newcomer)
               (record { joining = f.joining; head = f.head; under = f.under; reference = f.reference; members = f.members; newcomers = added e.newcomers f.newcomers });
-          same = open-head;
+          same = open_head;
           hearing = tt;
         })
     entering_hears e (Reports m) f = tt
@@ -225,7 +225,7 @@ module _ (r : ℕ) (p : Page) (head : Option Head) (up : Bool) (lost : ReplicaSe
         (record {
           stage = round_back r p h (set rs q (Some m))
               (record { reconfiguration = f.reconfiguration; head = f.head; reports = one_more h q rs m sender k f.reports });
-          same = open-head;
+          same = open_head;
           hearing = outdone_or_heard (outdoes p m);
         })
 

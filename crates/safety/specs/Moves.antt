@@ -66,11 +66,11 @@ pub data Move (post : List Message) (r : ℕ) (x : Node) : Node → List Message
       → Move post r x (with_row x (under h (round more))) []
   -- A member in normal mode records the head, numbered one above its component view, and says so.
   member_records : (h : Head) (v : View) (heard more : ℕ)
-      (in-normal : x.normal ≡ true) (at : x.row ≡ under h (gathering heard)) (its : x.component ≡ Some v) (adds : Adds heard r more)
+      (in_normal : x.normal ≡ true) (at : x.row ≡ under h (gathering heard)) (its : x.component ≡ Some v) (adds : Adds heard r more)
       → Move post r x (recording x x.normal (suc v.number.0) h (confirming more)) (recorded_from r h (number (suc v.number.0)) ∷ [])
   -- A newcomer records the head, numbered one above its reference. What it says of that bears on nothing here.
   newcomer_records : (h : Head) (v : View) (heard : ℕ)
-      (at : x.row ≡ under h (applying (Some v))) (no-view : x.component ≡ None) (nobody : Empty heard)
+      (at : x.row ≡ under h (applying (Some v))) (no_view : x.component ≡ None) (nobody : Empty heard)
       → Move post r x (recording x false (suc v.number.0) h (entering v heard)) []
   -- A gathering head closes, and the mode stays.
   give_up : (h : Head) (heard : ℕ)
@@ -80,7 +80,7 @@ pub data Move (post : List Message) (r : ℕ) (x : Node) : Node → List Message
   leave : Move post r x (leaving x x.row) []
   close : Move post r x (leaving x idle) []
   -- A newcomer that gives up clears what it recorded, and waits again.
-  wait_again : (no-view : x.component ≡ None) → Move post r x (node false x.top x.mark x.component None idle) []
+  wait_again : (no_view : x.component ≡ None) → Move post r x (node false x.top x.mark x.component None idle) []
 
 -- A round that ended under this head settled on this view.
 pub record Settlement : Type 0 where
@@ -95,11 +95,11 @@ module _ (carries : ℕ → ℕ → Bool) where
   pub data Finish (r : ℕ) (x : Node) : Node → Option Settlement → Type 0 where
     -- A member installs what it recorded: of those heard as recording members a part carries its component view.
     member_installs : (h : Head) (v : View) (d : Recorded) (heard part : ℕ)
-        (at : x.row ≡ under h (confirming heard)) (its : x.component ≡ Some v) (what : x.recorded ≡ Some d) (heard_all : Part part heard) (members-carry : carries part v.set.0 ≡ true)
+        (at : x.row ≡ under h (confirming heard)) (its : x.component ≡ Some v) (what : x.recorded ≡ Some d) (heard_all : Part part heard) (members_carry : carries part v.set.0 ≡ true)
         → Finish r x (holding x x.mark d.view) None
     -- A newcomer installs what it recorded: such a part carries its reference.
     newcomer_installs : (h : Head) (v : View) (d : Recorded) (heard part : ℕ)
-        (at : x.row ≡ under h (entering v heard)) (what : x.recorded ≡ Some d) (heard_all : Part part heard) (reference-carried : carries part v.set.0 ≡ true)
+        (at : x.row ≡ under h (entering v heard)) (what : x.recorded ≡ Some d) (heard_all : Part part heard) (reference_carried : carries part v.set.0 ≡ true)
         → Finish r x (holding x x.mark d.view) None
     -- A round settles: the settled view becomes the component view, or the replica, outside it, a spare.
     settle : (h : Head) (v : View) (reports : ℕ → Option Report)
