@@ -7,6 +7,6 @@ pub returns : goal.returns
 returns c =
     let at = lowest_member c.args.self.now.rest.0 c.in_ok-first.first (sym c.in_ok-first.ensures) in
     record {
-      steps = (c.in_ok-first.ensures, c.without-self.ensures.bits);
-      goes = firm ((tt, tt, c.without-self.ensures.smaller at.1)) (λ h. search rules);
+      steps = (c.in_ok-first.ensures, search rules);
+      goes = firm ((tt, tt, search (rules, at.1))) (λ h. search rules);
     }
