@@ -2,7 +2,7 @@
 use Rattle.std.specs.Prelude.{◌≡◌, ℕ, ◌*◌, ◌<◌, Bool, true, false, ◌&&◌, nat_lt, refl}
 use Rattle.std.proofs.Common.{ap, arith}
 use Rattle.std.proofs.lemmas.Bool.{lt-ltb, ltb-true, and_parts, and_from}
-use Rattle.quorum.specs.Members.{has, weight, shared, majority}
+use Rattle.quorum.specs.Members.{has, weight, shared, majority, one}
 use Rattle.quorum.specs.Laws.{Local, Whole, Grows, Meets}
 use Rattle.quorum.specs.Tallies.{tally_same, tally_le, tally_pos, tally_meet}
 
@@ -17,6 +17,10 @@ and_when false true false h = refl
 and_both : (a : Bool) → (a && a) ≡ a
 and_both true = refl
 and_both false = refl
+
+-- each replica weighs something where each weighs the same
+pub one_positive : (r : ℕ) → r < 16 → 0 < one r
+one_positive r l = omega arith
 
 module _ (w : ℕ → ℕ) where
   pub majority_local : Local (majority w)

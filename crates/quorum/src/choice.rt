@@ -2,8 +2,7 @@
 ghost use Rattle.quorum.specs.Choices.{chosen};
 ghost use Rattle.quorum.specs.declared.choice.ChosenRule.TheVariants.{Count, Weight};
 ghost use Rattle.quorum.specs.Members.{one, listed};
-ghost use Rattle.quorum.specs.Majority.{majority_local, majority_whole, majority_grows, majority_meets};
-ghost use Rattle.std.proofs.Common.{arith};
+ghost use Rattle.quorum.specs.Majority.{one_positive, majority_local, majority_whole, majority_grows, majority_meets};
 
 use super::count::CountRule;
 use super::rule::QuorumRule;
@@ -22,7 +21,7 @@ impl QuorumRule for ChosenRule {
     ghost local = { elim [ Count ↦ majority_local one | Weight w ↦ majority_local (listed w.weights) ] };
 
     ghost whole = { elim [
-      | Count ↦ majority_whole one (λ _ _. omega arith)
+      | Count ↦ majority_whole one one_positive
       | Weight w ↦ majority_whole (listed w.weights) w.positive
     ] };
 

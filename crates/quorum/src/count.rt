@@ -1,7 +1,6 @@
 // The count rule: more than half of the set's members.
 ghost use Rattle.quorum.specs.Members.{one, majority};
-ghost use Rattle.quorum.specs.Majority.{majority_local, majority_whole, majority_grows, majority_meets};
-ghost use Rattle.std.proofs.Common.{arith};
+ghost use Rattle.quorum.specs.Majority.{one_positive, majority_local, majority_whole, majority_grows, majority_meets};
 
 use super::rule::QuorumRule;
 use super::set::ReplicaSet;
@@ -14,7 +13,7 @@ impl QuorumRule for CountRule {
 
     ghost local = { λ _. majority_local one };
 
-    ghost whole = { λ _. majority_whole one (λ _ _. omega arith) };
+    ghost whole = { λ _. majority_whole one one_positive };
 
     ghost grows = { λ _. majority_grows one };
 

@@ -2,7 +2,6 @@
 ghost use Rattle.std.specs.Prelude.{◌≡◌, ℕ, ◌<◌, true, length, replicate, if◌then◌else◌, nat_eq, slice_set};
 ghost use Rattle.stores.specs.Kept.{fresh, Sound, Cut};
 ghost use Rattle.stores.specs.Rules.{keeps_rules};
-ghost use Rattle.std.proofs.Common.{rules, arith};
 
 use super::page::Page;
 use super::store::{Breakable, Store};
@@ -32,9 +31,9 @@ impl Store for HeldPages {
 
     ghost places = { λ _. 65535 };
 
-    ghost sixteen = { first_of (Prim.search rules, Prim.grind (arith, Self.row.coded.inj)) };
+    ghost sixteen = { λ s. s.sixteen };
 
-    ghost sound = { first_of (Prim.search rules, Prim.grind (arith, Self.row.coded.inj)) };
+    ghost sound = { λ s. s.sound };
 
     fn read(&self, replica: u8) -> Page {
         self.pages[replica as usize]

@@ -1,7 +1,6 @@
 // A store that counts its places down, to show that the promises of a store are not those of held pages alone.
 ghost use Rattle.std.specs.Prelude.{◌≡◌, length, replicate, IfOk};
 ghost use Rattle.stores.specs.Kept.{fresh, no_place, Sound};
-ghost use Rattle.std.proofs.Common.{rules, arith};
 
 use quorum::{Fault, Layer, Reason};
 use std::alloc::{AllocError, Global};
@@ -41,9 +40,9 @@ impl Store for CountedPages {
 
     ghost places = { λ s. s.left };
 
-    ghost sixteen = { first_of (Prim.search rules, Prim.grind (arith, Self.row.coded.inj)) };
+    ghost sixteen = { λ s. s.sixteen };
 
-    ghost sound = { first_of (Prim.search rules, Prim.grind (arith, Self.row.coded.inj)) };
+    ghost sound = { λ s. s.sound };
 
     fn read(&self, replica: u8) -> Page {
         self.pages[replica as usize]
