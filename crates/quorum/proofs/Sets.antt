@@ -81,10 +81,6 @@ has_without a j r h =
     (λ i. let none : has a r ≡ false = has_high a 16 r h i in rw none)
     (cases_lt r 16)
 
--- the same of the set t that was made so
-pub without_has : (a b t j r : ℕ) → a < 2 ^ 16 → b ≡ single j → t ≡ less a b → has t r ≡ (has a r && not (eqb r j))
-without_has a b t j r h single_is less_is = rw (less_is, single_is) (has_without a j r h)
-
 -- a set without one of its members is smaller
 pub size_without : (a j : ℕ) → a < 2 ^ 16 → has a j ≡ true → size (less a (single j)) < size a
 size_without a j h m =
@@ -92,7 +88,3 @@ size_without a j h m =
     tally_lt one (has (less a (single j))) (has a) 16 j l
     (λ k _ e. (and_parts (has a k) (not (eqb k j)) (sym (has_without a j k h) ∙ e)).0)
     (has_without a j j h ∙ ap (λ b. has a j && not b) (eq-eqb j j refl) ∙ grind (arith, nat_tests)) m (omega arith)
-
--- the same of the set t that was made so
-pub without_size : (a b t j : ℕ) → a < 2 ^ 16 → b ≡ single j → t ≡ less a b → has a j ≡ true → size t < size a
-without_size a b t j h single_is less_is m = rw (less_is, single_is) (size_without a j h m)

@@ -1,5 +1,5 @@
 -- The presumed view: the highest component view reported, the lowest sender's if sets differ. Assumes nothing.
-use Rattle.std.specs.Prelude.{◌≡◌, ℕ, ◌<◌, ◌≤◌, Bool, cond, ltb, List, Some, None, Option, nat_lt}
+use Rattle.std.specs.Prelude.{◌≡◌, ℕ, ◌<◌, ◌≤◌, Bool, cond, List, Some, None, Option, nat_lt}
 use Rattle.quorum.specs.Below.{any, first}
 use Rattle.stores.specs.declared.view.View.{View}
 use Rattle.rounds.specs.declared.report.Report.{Report}
@@ -7,7 +7,7 @@ use Rattle.rounds.specs.Reports.{reported, component_of, present}
 
 -- a view is there and is numbered above v
 abbrev pub numbered_above : View → Option View → Bool
-numbered_above v = present (λ w. ltb v.number.0 w.number.0)
+numbered_above v = present (λ w. nat_lt v.number.0 w.number.0)
 
 -- some component view is higher than v
 abbrev pub exceeded : List (Option Report) → View → Bool

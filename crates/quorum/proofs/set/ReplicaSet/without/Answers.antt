@@ -1,9 +1,9 @@
-use Rattle.std.proofs.Common.{rules}
-use Rattle.quorum.proofs.Sets.{without_has, without_size}
+use Rattle.std.proofs.Common.{arith}
+use Rattle.quorum.proofs.Sets.{has_without, size_without}
 use Rattle.quorum.proofs.set.ReplicaSet.without.Goals as goal
 
 pub returns-clause-members : goal.returns-clause-members
-returns-clause-members c = λ k. search (rules, without_has)
+returns-clause-members c = λ k. grind (arith, has_without)
 
 pub returns-clause-smaller : goal.returns-clause-smaller
-returns-clause-smaller c = λ m. search (rules, without_size)
+returns-clause-smaller c = λ m. grind (arith, size_without)
