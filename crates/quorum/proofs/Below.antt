@@ -1,10 +1,15 @@
 -- The laws of `any`, `first` and `select`, and the steps of loops that gather a set. Assumes nothing.
 use Rattle.std.proofs.Common.{◌≡◌, ℕ, zero, suc, ◌+◌, ◌*◌, ◌^◌, ◌<◌, Bool, true, false, cond, not, ◌&&◌, ◌||◌, eqb, ltb, ◌⊎◌, is_some, Some, None, Decides, Option, sym, refl, ap, ◌∙◌, ap₂, inl, inr, ⊎_elim, not-suc-le-zero, add-zero, pow-suc, add-one, arith}
+use Rattle.std.specs.List.{IsAnyAnswer, list_any, range_with_len}
+use Rattle.std.proofs.lemmas.List.Folds.{list_any-append}
+use Rattle.std.specs.Prelude.{List, [], ◌∷◌, ◌++◌, length, slice_index_or}
+use Rattle.std.specs.Option.{option_or}
 use lib.Bits.{bit_or, or_shifted_r}
 use Rattle.std.proofs.lemmas.Bool.{cases_eq, cases_Bool, cases_lt, and_from, lt-ltb, false≢true, not-true, not_from_false, not_from_true, or_left, or_right, or_cases, both_ways, not-false, and_left, and_right}
 use Rattle.std.proofs.lemmas.Bool.Decides.{nat_tests}
-use Rattle.quorum.specs.Members.{has}
-use Rattle.quorum.specs.Below.{any, first, or_else, select, within, First, if_member, lowest}
+use Rattle.std.proofs.lemmas.List.FromFn.{get_or-range_with_len}
+use Rattle.quorum.specs.Members.{has, everybody}
+use Rattle.quorum.specs.Below.{any, first, select, within, First, if_member, lowest}
 use Rattle.quorum.proofs.Bits.{has_or, has_single, has_high}
 
 -- ---- any
@@ -34,26 +39,26 @@ and_true false = refl
 
 first_step : {A : Type 0} (g : ℕ → Option A) (n : ℕ) →
     ((first g n ≡ None) × ((k : ℕ) → k < n → g k ≡ None)) ⊎ ((a : A) × (first g n ≡ Some a) × First g n a) → (o : Option A) → o ≡ g n →
-    ((or_else (first g n) (g n) ≡ None) × ((k : ℕ) → k < suc n → g k ≡ None)) ⊎ ((a : A) × (or_else (first g n) (g n) ≡ Some a) × First g (suc n) a)
+    ((option_or (first g n) (g n) ≡ None) × ((k : ℕ) → k < suc n → g k ≡ None)) ⊎ ((a : A) × (option_or (first g n) (g n) ≡ Some a) × First g (suc n) a)
 first_step g n (inl h) None e =
-    inl (ap₂ or_else h.0 (sym e), λ k l. ⊎_elim (λ q. ap g q ∙ sym e) (λ q. h.1 k (omega arith)) (cases_eq k n))
+    inl (ap₂ option_or h.0 (sym e), λ k l. ⊎_elim (λ q. ap g q ∙ sym e) (λ q. h.1 k (omega arith)) (cases_eq k n))
 first_step g n (inl h) (Some a) e =
-    inr (a, ap₂ or_else h.0 (sym e), record { place = n; below = omega arith; offers = sym e; earlier = h.1 })
+    inr (a, ap₂ option_or h.0 (sym e), record { place = n; below = omega arith; offers = sym e; earlier = h.1 })
 first_step g n (inr h) o e =
     let i = h.2 in
-    inr (h.0, ap (λ x. or_else x (g n)) h.1, record { place = i.place; below = omega (arith, i.below); offers = i.offers; earlier = i.earlier })
+    inr (h.0, ap (λ x. option_or x (g n)) h.1, record { place = i.place; below = omega (arith, i.below); offers = i.offers; earlier = i.earlier })
 
 pub first_none_from : {A : Type 0} (g : ℕ → Option A) (n : ℕ) → ((k : ℕ) → k < n → g k ≡ None) → first g n ≡ None
 unfolding first
 first_none_from g zero h = refl
-first_none_from g (suc n) h = ap₂ or_else (first_none_from g n (λ k l. h k (omega arith))) (h n (omega arith))
+first_none_from g (suc n) h = ap₂ option_or (first_none_from g n (λ k l. h k (omega arith))) (h n (omega arith))
 
 pub first_from : {A : Type 0} (g : ℕ → Option A) (n k : ℕ) (a : A) → k < n → g k ≡ Some a → ((j : ℕ) → j < k → g j ≡ None) → first g n ≡ Some a
 unfolding first
 first_from g zero k a h e l = absurd (not-suc-le-zero h)
 first_from g (suc n) k a h e l =
-    ⊎_elim (λ q. ap₂ or_else (first_none_from g n (λ j i. l j (omega arith))) (ap g (sym q) ∙ e))
-    (λ q. ap (λ o. or_else o (g n)) (first_from g n k a (omega arith) e l)) (cases_eq k n)
+    ⊎_elim (λ q. ap₂ option_or (first_none_from g n (λ j i. l j (omega arith))) (ap g (sym q) ∙ e))
+    (λ q. ap (λ o. option_or o (g n)) (first_from g n k a (omega arith) e l)) (cases_eq k n)
 
 -- nobody offers anything, or one does and none below
 pub first_cases : {A : Type 0} (g : ℕ → Option A) (n : ℕ) →
@@ -171,3 +176,35 @@ lowest_member s m e =
 pub lowest_some : (s r : ℕ) → r < 16 → has s r ≡ true → is_some (lowest s) ≡ true
 lowest_some s r l h =
     ⊎_elim (λ n. absurd (both_ways (has s r) (none_is (has s r) r (n.1 r l)) h)) (λ n. ap is_some n.1) (first_cases (if_member s) 16)
+
+-- ---- the same of lists
+range_more : (a n j : ℕ) → a + n ≡ j → range_with_len a (suc n) ≡ range_with_len a n ++ j ∷ []
+range_more a zero j e = ap (λ k. k ∷ []) (let same : a ≡ j = omega (arith, e) in same)
+range_more a (suc n) j e = ap (λ ks. a ∷ ks) (range_more (a + 1) n j (omega (arith, e)))
+
+false_or : (b : Bool) → (b || false) ≡ b
+false_or true = refl
+false_or false = refl
+
+pub list_any-range : (f : ℕ → Bool) (n : ℕ) → list_any f (range_with_len 0 n) ≡ any f n
+unfolding any
+list_any-range f zero = refl
+list_any-range f (suc n) =
+    ap (list_any f) (range_more 0 n n (omega arith)) ∙ list_any-append f (range_with_len 0 n) (n ∷ []) ∙ ap₂ ◌||◌ (list_any-range f n) (false_or (f n))
+
+-- whether some element of a list passes, by its places
+pub any_answered : {X : Type 0} (p : X → Bool) (d : X) (xs : List X) (r : Bool) → IsAnyAnswer (λ y b. p y ≡ b) xs r → any (λ k. p (slice_index_or xs k d)) (length xs) ≡ r
+any_answered p d xs true h = any_from _ (length xs) h.0 h.1 (h.2 d)
+any_answered p d xs false h = any_none_from _ (length xs) (λ k l. h k d (omega arith) l)
+
+pub everybody_at : (k d : ℕ) → k < 16 → slice_index_or everybody k d ≡ k
+unfolding everybody
+everybody_at k d l = get_or-range_with_len 0 16 k d l ∙ omega arith
+
+pub length-everybody : length everybody ≡ 16
+unfolding everybody
+length-everybody = refl
+
+pub list_any-everybody : (f : ℕ → Bool) → list_any f everybody ≡ any f 16
+unfolding everybody
+list_any-everybody f = list_any-range f 16

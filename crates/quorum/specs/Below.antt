@@ -1,6 +1,7 @@
 -- Of the replicas below n: whether a test picks any, which one is the first to offer something, and the set of those that it picks.
 -- Each is read by its law in proofs/Below. Assumes nothing.
-use Rattle.std.specs.Prelude.{◌≡◌, ℕ, zero, suc, ◌+◌, ◌^◌, ◌<◌, Bool, false, cond, not, ◌&&◌, ◌||◌, Some, None, Option}
+use Rattle.std.specs.Prelude.{◌≡◌, ℕ, zero, suc, ◌+◌, ◌^◌, ◌<◌, Bool, false, if◌then◌else◌, not, ◌&&◌, ◌||◌, Some, None, Option}
+use Rattle.std.specs.Option.{option_or}
 use Rattle.quorum.specs.Members.{has}
 
 -- some replica below n is picked
@@ -8,15 +9,10 @@ unfoldable pub any : (ℕ → Bool) → ℕ → Bool
 any f zero = false
 any f (suc n) = any f n || f n
 
--- the first, or where it is absent the second
-abbrev pub or_else : {A : Type 0} → Option A → Option A → Option A
-or_else None y = y
-or_else (Some x) y = Some x
-
 -- what the lowest replica below n that offers something offers
 unfoldable pub first : {A : Type 0} → (ℕ → Option A) → ℕ → Option A
 first g zero = None
-first g (suc n) = or_else (first g n) (g n)
+first g (suc n) = option_or (first g n) (g n)
 
 -- a is what the first offers: from whom, and that none before offers anything
 pub record First {A : Type 0} (g : ℕ → Option A) (n : ℕ) (a : A) : Type 0 where
@@ -28,7 +24,7 @@ pub record First {A : Type 0} (g : ℕ → Option A) (n : ℕ) (a : A) : Type 0 
 -- the set of the replicas below n that are picked
 unfoldable pub select : (ℕ → Bool) → ℕ → ℕ
 select f zero = 0
-select f (suc n) = select f n + cond (f n) (2 ^ n) 0
+select f (suc n) = select f n + (if f n then 2 ^ n else 0)
 
 -- each member of a is one of b
 abbrev pub within : ℕ → ℕ → Bool
@@ -36,7 +32,7 @@ within a b = not (any (λ r. has a r && not (has b r)) 16)
 
 -- r, if it is in s
 abbrev pub if_member : ℕ → ℕ → Option ℕ
-if_member s r = cond (has s r) (Some r) None
+if_member s r = if has s r then Some r else None
 
 -- the lowest member of s
 abbrev pub lowest : ℕ → Option ℕ

@@ -1,5 +1,7 @@
--- Each refusal's number. Assumes nothing.
-use Rattle.std.specs.Prelude.{ℕ}
+-- Each refusal's number, and refusals as answers. Assumes nothing.
+use Rattle.std.specs.Prelude.{ℕ, Bool, if◌then◌else◌, Some, None, Option, Ok, Err, Result}
+use Rattle.quorum.specs.declared.fault.Fault.{Fault}
+use Rattle.quorum.specs.declared.fault.Layer.{Layer}
 use Rattle.quorum.specs.declared.fault.Reason.{Reason}
 use Rattle.quorum.specs.declared.fault.Reason.TheVariants.{NoSuchReplica, WrongPower, ViewWithoutReplica, HeadOpen, StampNotAbove, NumbersExhausted, NoSuchMessage, NoHead, OtherHead, WrongParty, NotHeard, HeardAlready, PostFull, NoPlace, BadFounding, NotFresh, ZeroWeight, AgainstRules}
 
@@ -22,3 +24,20 @@ reason_number BadFounding = 15
 reason_number NotFresh = 16
 reason_number ZeroWeight = 17
 reason_number AgainstRules = 18
+
+-- a layer's refusal of a call at replica r
+abbrev pub refused_at : Layer → Reason → ℕ → Fault
+refused_at layer reason r = record { reason = reason; replica = Some r; layer = layer }
+
+-- a layer's refusal that names no replica
+abbrev pub refused_by : Layer → Reason → Fault
+refused_by layer reason = record { reason = reason; replica = None; layer = layer }
+
+-- refused, if the condition holds
+abbrev pub refused_if : Bool → Fault → Option Fault
+refused_if b fault = if b then Some fault else None
+
+-- let through, or refused
+abbrev pub allowed : Option Fault → Result Unit Fault
+allowed None = Ok tt
+allowed (Some fault) = Err fault

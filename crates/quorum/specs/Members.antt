@@ -1,5 +1,10 @@
 -- Which replicas a set of bits holds, and what a set weighs. Bit r of a set stands for replica r. Assumes nothing.
-use Rattle.std.specs.Prelude.{ℕ, zero, suc, ◌+◌, ◌*◌, ◌/◌, ◌%◌, ◌^◌, Bool, cond, ◌&&◌, List, ◌==◌, nat_lt, slice_index}
+use Rattle.std.specs.Prelude.{ℕ, zero, suc, ◌+◌, ◌*◌, ◌/◌, ◌%◌, ◌^◌, Bool, if◌then◌else◌, ◌&&◌, List, ◌==◌, nat_lt, slice_index}
+use Rattle.std.specs.List.{range_with_len}
+
+-- all sixteen replicas, lowest first
+unfoldable pub everybody : List ℕ
+everybody = range_with_len 0 16
 
 -- replica r is in the set s: the one membership test
 unfoldable pub has : ℕ → ℕ → Bool
@@ -8,7 +13,7 @@ has s r = s / 2 ^ r % 2 == 1
 -- the weights w of those replicas below n that f picks, together
 unfoldable pub tally : (ℕ → ℕ) → (ℕ → Bool) → ℕ → ℕ
 tally w f zero = 0
-tally w f (suc n) = tally w f n + cond (f n) (w n) 0
+tally w f (suc n) = tally w f n + (if f n then w n else 0)
 
 -- what a set weighs
 abbrev pub weight : (ℕ → ℕ) → ℕ → ℕ

@@ -1,8 +1,9 @@
 // Why a call is refused: the fault that all layers share.
 ghost use Rattle.std.specs.Prelude.{◌≡◌};
-ghost use Rattle.quorum.specs.Faults.{reason_number};
-ghost use Rattle.quorum.specs.declared.fault.Failure.TheVariants.{Refused};
+ghost use Rattle.quorum.specs.Faults.{reason_number, refused_at, refused_by, refused_if, allowed};
+ghost use Rattle.quorum.specs.declared.fault.Failure.TheVariants.{Refused, NoMemory};
 
+use std::alloc::AllocError;
 use std::fmt;
 
 // The layer in which a fault arose. It is kept on the way up.
@@ -18,41 +19,41 @@ pub enum Layer {
 #[derive(Clone, Copy, PartialEq, Eq, Debug)]
 pub enum Reason {
     // A replica is above 15.
-    NoSuchReplica,
+    NoSuchReplica = 1,
     // The replica is down, or at a start up.
-    WrongPower,
+    WrongPower = 2,
     // The view lacks the replica.
-    ViewWithoutReplica,
+    ViewWithoutReplica = 3,
     // A view finds a head open.
-    HeadOpen,
+    HeadOpen = 4,
     // A view's stamp is not above the top stamp.
-    StampNotAbove,
+    StampNotAbove = 5,
     // A view finds normal mode at the highest number.
-    NumbersExhausted,
+    NumbersExhausted = 6,
     // A delivery's index is not in the post.
-    NoSuchMessage,
+    NoSuchMessage = 7,
     // A delivery or loss finds no head.
-    NoHead,
+    NoHead = 8,
     // The message's head differs in stamp or set.
-    OtherHead,
+    OtherHead = 9,
     // The sender is the replica itself or lost, or the loss names itself, a stranger or one lost already.
-    WrongParty,
+    WrongParty = 10,
     // No rule hears this message in this stage.
-    NotHeard,
+    NotHeard = 11,
     // That kind from that sender was heard, or a Report was answered.
-    HeardAlready,
+    HeardAlready = 12,
     // A view or delivery finds under two free places in the post.
-    PostFull,
+    PostFull = 13,
     // The store has no place.
-    NoPlace,
+    NoPlace = 14,
     // The founding set is empty or the first number above the highest.
-    BadFounding,
+    BadFounding = 15,
     // Founding finds fewer than sixteen places or a page that is not fresh.
-    NotFresh,
+    NotFresh = 16,
     // A weight is zero.
-    ZeroWeight,
+    ZeroWeight = 17,
     // A page, row or message is against the rules.
-    AgainstRules,
+    AgainstRules = 18,
 }
 
 impl Reason {
@@ -60,25 +61,28 @@ impl Reason {
     pub fn number(self) -> u8
         ensures { result ≡ reason_number self }
     {
-        match self {
-            Reason::NoSuchReplica => 1,
-            Reason::WrongPower => 2,
-            Reason::ViewWithoutReplica => 3,
-            Reason::HeadOpen => 4,
-            Reason::StampNotAbove => 5,
-            Reason::NumbersExhausted => 6,
-            Reason::NoSuchMessage => 7,
-            Reason::NoHead => 8,
-            Reason::OtherHead => 9,
-            Reason::WrongParty => 10,
-            Reason::NotHeard => 11,
-            Reason::HeardAlready => 12,
-            Reason::PostFull => 13,
-            Reason::NoPlace => 14,
-            Reason::BadFounding => 15,
-            Reason::NotFresh => 16,
-            Reason::ZeroWeight => 17,
-            Reason::AgainstRules => 18,
+        self as u8
+    }
+
+    // This layer's refusal of a call at a replica, of whatever number.
+    pub fn at(self, replica: u8, layer: Layer) -> Fault
+        ensures { result ≡ refused_at layer self replica }
+    {
+        Fault {
+            reason: self,
+            replica: Some(replica),
+            layer,
+        }
+    }
+
+    // This layer's refusal, which names no replica.
+    pub fn by(self, layer: Layer) -> Fault
+        ensures { result ≡ refused_by layer self }
+    {
+        Fault {
+            reason: self,
+            replica: None,
+            layer,
         }
     }
 }
@@ -89,6 +93,15 @@ pub struct Fault {
     pub reason: Reason,
     pub replica: Option<u8>,
     pub layer: Layer,
+}
+
+impl Fault {
+    // Refused, where the condition holds.
+    pub fn refuse_if(self, condition: bool) -> Result<(), Fault>
+        ensures { result ≡ allowed (refused_if condition self) }
+    {
+        if condition { Err(self) } else { Ok(()) }
+    }
 }
 
 // Why a call did not do its work: a refusal, or want of memory, which changes nothing either.
@@ -104,6 +117,15 @@ impl From<Fault> for Failure {
 
     fn from(fault: Fault) -> Failure {
         Failure::Refused(fault)
+    }
+}
+
+// Want of memory comes up as such.
+impl From<AllocError> for Failure {
+    ghost from_gives = { λ _ r. r ≡ NoMemory };
+
+    fn from(_: AllocError) -> Failure {
+        Failure::NoMemory
     }
 }
 

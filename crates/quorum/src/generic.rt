@@ -3,6 +3,7 @@ ghost use Rattle.std.specs.Prelude.{◌≡◌, ◌&&◌, is_some, if◌then◌el
 ghost use Rattle.quorum.specs.Below.{lowest as lowest_of};
 ghost use Rattle.quorum.specs.Sets.{both};
 
+use super::replica::Replica;
 use super::rule::QuorumRule;
 use super::set::ReplicaSet;
 
@@ -12,7 +13,7 @@ pub fn meeting<R: QuorumRule>(
     one: ReplicaSet,
     other: ReplicaSet,
     set: ReplicaSet,
-) -> Option<u8>
+) -> Option<Replica>
     ensures value { result ≡ (if R.carries rule.now one.0 set.0 && R.carries rule.now other.0 set.0 then lowest_of (both (both one.0 other.0) set.0) else None) }
     ensures meets { is_some result ≡ (R.carries rule.now one.0 set.0 && R.carries rule.now other.0 set.0) }
 {

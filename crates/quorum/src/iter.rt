@@ -5,6 +5,7 @@ ghost use Rattle.quorum.specs.Members.{size};
 ghost use Rattle.quorum.specs.Sets.{less, single};
 ghost use Rattle.std.specs.Iterator.{at_most};
 
+use super::replica::Replica;
 use super::set::ReplicaSet;
 
 #[derive(Drop)]
@@ -21,16 +22,16 @@ impl ReplicaSet {
 }
 
 impl Iterator for Members {
-    type Item = u8;
+    type Item = Replica;
 
     // Each call gives the lowest of the rest and takes it away.
     ghost next_gives = { λ s r t. (r ≡ lowest_of s.rest.0) × MatchOption r (t.rest ≡ s.rest) (λ m. t.rest.0 ≡ less s.rest.0 (single m)) };
 
     ghost remaining = { λ s. at_most (size s.rest.0) };
 
-    fn next(&mut self) -> Option<u8> {
+    fn next(&mut self) -> Option<Replica> {
         let first = self.rest.lowest()?;
-        self.rest = self.rest.without(first);
+        self.rest = self.rest.without(first.number());
         Some(first)
     }
 }

@@ -1,8 +1,10 @@
 // Sets of replicas. Replicas are 0 to 15; bit r of a set stands for replica r.
-ghost use Rattle.std.specs.Prelude.{◌≡◌, ℕ, ◌<◌, ◌≤◌, true, false, not, ◌&&◌, ◌||◌, Decides, ◌==◌, nat_lt};
+ghost use Rattle.std.specs.Prelude.{◌≡◌, ℕ, ◌<◌, ◌≤◌, true, false, not, ◌&&◌, ◌||◌, IsTrue, ◌↔◌, ◌==◌, nat_lt};
 ghost use Rattle.quorum.specs.Below.{within, lowest as lowest_of};
 ghost use Rattle.quorum.specs.Members.{has, size};
 ghost use Rattle.quorum.specs.Sets.{either, both, less, single};
+
+use super::replica::Replica;
 
 #[derive(Clone, Copy, PartialEq, Eq, Debug)]
 pub struct ReplicaSet(pub u16);
@@ -68,14 +70,14 @@ impl ReplicaSet {
 
     pub fn is_subset(self, other: ReplicaSet) -> bool
         ensures test { result ≡ within self.0 other.0 }
-        ensures members { Decides result ((k : ℕ) → has self.0 k ≡ true → has other.0 k ≡ true) }
+        ensures members { IsTrue result ↔ ((k : ℕ) → has self.0 k ≡ true → has other.0 k ≡ true) }
     {
         self.0 & other.0 == self.0
     }
 
     pub fn is_empty(self) -> bool
         ensures test { result ≡ (self.0 == 0) }
-        ensures members { Decides result ((k : ℕ) → has self.0 k ≡ false) }
+        ensures members { IsTrue result ↔ ((k : ℕ) → has self.0 k ≡ false) }
     {
         self.0 == 0
     }
@@ -88,11 +90,11 @@ impl ReplicaSet {
         self.0.count_ones()
     }
 
-    pub fn lowest(self) -> Option<u8>
+    pub fn lowest(self) -> Option<Replica>
         ensures { result ≡ lowest_of self.0 }
     {
-        for replica in 0..16u8 {
-            if self.contains(replica) {
+        for replica in Replica::all() {
+            if self.contains(replica.number()) {
                 return Some(replica);
             }
         }

@@ -3,6 +3,7 @@ ghost use Rattle.std.specs.Prelude.{◌≡◌, ℕ, ◌<◌, ◌≤◌, is_err, 
 ghost use Rattle.quorum.specs.declared.fault.Layer.TheVariants.{Rule};
 ghost use Rattle.quorum.specs.declared.fault.Reason.TheVariants.{ZeroWeight};
 ghost use Rattle.quorum.specs.Below.{any};
+ghost use Rattle.quorum.specs.Faults.{refused_by};
 ghost use Rattle.quorum.specs.Members.{weight, listed, majority};
 ghost use Rattle.quorum.specs.Majority.{majority_local, majority_whole, majority_grows, majority_meets};
 
@@ -20,18 +21,12 @@ pub struct WeightRule {
 impl WeightRule {
     // Refused where a weight is zero, and only there.
     pub fn new(weights: [u8; 16]) -> Result<WeightRule, Fault>
-        ensures kept { MatchResult result (λ x. x.weights ≡ weights) (λ e. e ≡ record { reason = ZeroWeight; replica = None; layer = Rule }) }
+        ensures kept { MatchResult result (λ x. x.weights ≡ weights) (λ e. e ≡ refused_by Rule ZeroWeight) }
         ensures refused { is_err result ≡ any (λ k. nat_eq (slice_index weights k) 0) 16 }
     {
-        for replica in 0..16u8 {
-            if weights[replica as usize] == 0 {
-                return Err(Fault {
-                    reason: Reason::ZeroWeight,
-                    replica: None,
-                    layer: Layer::Rule,
-                });
-            }
-        }
+        Reason::ZeroWeight
+            .by(Layer::Rule)
+            .refuse_if(weights.contains(&0))?;
         Ok(WeightRule { weights })
     }
 

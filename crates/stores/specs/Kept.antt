@@ -1,5 +1,5 @@
 -- What a store means, sixteen pages and a count of places, and what its calls leave. Assumes nothing.
-use Rattle.std.specs.Prelude.{◌≡◌, ℕ, ◌+◌, ◌<◌, ◌≤◌, true, ◌⊎◌, List, Some, None, Ok, Err, Result, slice_index_or, slice_set}
+use Rattle.std.specs.Prelude.{◌≡◌, ℕ, ◌+◌, ◌<◌, ◌≤◌, true, ◌⊎◌, List, Some, None, Ok, Err, Result, ◌==◌, if◌then◌else◌, slice_index_or, slice_set}
 use Rattle.quorum.specs.declared.fault.Fault.{Fault}
 use Rattle.quorum.specs.declared.fault.Layer.TheVariants.{Store}
 use Rattle.quorum.specs.declared.fault.Reason.TheVariants.{NoPlace}
@@ -43,3 +43,7 @@ Written xs n ys m r q (Err e) = Refused xs n ys m r e
 abbrev pub Cut : List Page → ℕ → List Page → ℕ → ℕ → Page → Result Unit Fault → Type 0
 Cut xs n ys m r q (Ok _) = ((ys ≡ xs) ⊎ (ys ≡ slice_set xs r q)) × Spent n m × (0 < n)
 Cut xs n ys m r q (Err e) = Refused xs n ys m r e
+
+-- a cut of held pages leaves the old page where it comes before the first byte-write, and else the new one
+abbrev pub held_page : ℕ → Page → Page → Page → Type 0
+held_page n old new p = p ≡ (if n == 0 then old else new)

@@ -1,5 +1,5 @@
 -- The rules that every page keeps, for the replica r whose page it is. Assumes nothing.
-use Rattle.std.specs.Prelude.{ℕ, ◌+◌, Bool, true, false, not, ◌&&◌, ◌||◌, is_some, Some, None, Option, ◌==◌, nat_le}
+use Rattle.std.specs.Prelude.{ℕ, ◌+◌, Bool, true, false, not, ◌&&◌, ◌||◌, is_some, Some, None, Option, ◌==◌, nat_le, nat_lt}
 use Rattle.quorum.specs.Members.{has}
 use Rattle.stores.specs.declared.page.Mode.{Mode}
 use Rattle.stores.specs.declared.page.Mode.TheVariants.{Waiting, Joining, Normal, Reconfiguration}
@@ -53,3 +53,7 @@ unfoldable pub keeps_rules : ℕ → Page → Bool
 keeps_rules r p =
     mode_fits p.mode (is_some p.component) (is_some p.recorded) && mark_fits p.mark && component_fits r p.mark p.component
     && recorded_fits r p.top.0 p.mark p.recorded && numbers_follow p.component p.recorded
+
+-- there is such a replica, and the page keeps the rules for it
+abbrev pub may_be_kept : ℕ → Page → Bool
+may_be_kept r p = nat_lt r 16 && keeps_rules r p

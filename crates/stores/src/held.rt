@@ -1,11 +1,11 @@
 // Pages held in memory.
-ghost use Rattle.std.specs.Prelude.{◌≡◌, ℕ, ◌<◌, true, length, replicate, if◌then◌else◌, nat_eq, slice_set};
-ghost use Rattle.stores.specs.Kept.{fresh, Sound, Cut};
-ghost use Rattle.stores.specs.Rules.{keeps_rules};
+ghost use Rattle.std.specs.Prelude.{◌≡◌, length, replicate, if◌then◌else◌, ◌==◌, OnOk, slice_set};
+ghost use Rattle.stores.specs.Kept.{fresh, page_at, held_page, Sound, Cut};
 
+use super::kept_page::KeptPage;
 use super::page::Page;
 use super::store::{Breakable, Store};
-use quorum::Fault;
+use quorum::{Fault, Replica};
 
 // Sixteen pages in memory, which always have 65,535 places.
 #[derive(Clone, Copy)]
@@ -35,30 +35,31 @@ impl Store for HeldPages {
 
     ghost sound = { λ s. s.sound };
 
-    fn read(&self, replica: u8) -> Page {
-        self.pages[replica as usize]
+    fn read(&self, replica: Replica) -> Page {
+        self.pages[replica.index()]
     }
 
     fn places(&self) -> u32 {
         65_535
     }
 
-    fn write(&mut self, replica: u8, page: Page) -> Result<(), Fault> {
-        self.pages[replica as usize] = page;
+    fn write(&mut self, kept: KeptPage) -> Result<(), Fault> {
+        self.pages[kept.replica.index()] = kept.page;
         Ok(())
     }
 }
 
 impl Breakable for HeldPages {
+    ghost leaves = { held_page };
+
     // A cut at 0 leaves the old page, any other the new one.
-    fn cut(&mut self, replica: u8, page: Page, n: u64) -> Result<(), Fault>
-        requires within { replica < 16 }
-        requires kept { keeps_rules replica page ≡ true }
-        ensures cut { Cut self.old.pages 65535 self.new.pages 65535 replica page result }
-        ensures exact { self.new.pages ≡ (if nat_eq n 0 then self.old.pages else slice_set self.old.pages replica page) }
+    fn cut(&mut self, kept: KeptPage, n: u64) -> Result<(), Fault>
+        ensures cut { Cut self.old.pages 65535 self.new.pages 65535 kept.replica kept.page result }
+        ensures left { OnOk result (held_page n (page_at self.old.pages kept.replica) kept.page (page_at self.new.pages kept.replica)) }
+        ensures exact { self.new.pages ≡ (if n == 0 then self.old.pages else slice_set self.old.pages kept.replica kept.page) }
     {
         if n > 0 {
-            self.pages[replica as usize] = page;
+            self.pages[kept.replica.index()] = kept.page;
         }
         Ok(())
     }

@@ -2,6 +2,7 @@
 #![tactic(auto)]
 
 mod held;
+mod kept_page;
 mod page;
 mod replay;
 mod rules;
@@ -10,6 +11,7 @@ mod view;
 mod writing;
 
 pub use held::HeldPages;
+pub use kept_page::KeptPage;
 pub use page::{Mode, Page};
 pub use replay::{carry_out, carry_out_held};
 pub use store::{Breakable, Store};

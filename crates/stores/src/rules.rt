@@ -1,5 +1,5 @@
 // The rules that every page keeps.
-ghost use Rattle.std.specs.Prelude.{◌≡◌, Decides};
+ghost use Rattle.std.specs.Prelude.{◌≡◌, ◌↔◌, IsTrue};
 ghost use Rattle.stores.specs.Facts.{PageRules};
 ghost use Rattle.stores.specs.Kept.{fresh};
 ghost use Rattle.stores.specs.Rules.{mode_number, mode_fits, marked, mark_fits, component_fits, recorded_fits, numbers_follow, keeps_rules};
@@ -11,12 +11,7 @@ impl Mode {
     pub fn number(self) -> u8
         ensures { result ≡ mode_number self }
     {
-        match self {
-            Mode::Waiting => 1,
-            Mode::Joining => 2,
-            Mode::Normal => 3,
-            Mode::Reconfiguration => 4,
-        }
+        self as u8
     }
 
     // Whether a page of this mode has these views.
@@ -36,19 +31,13 @@ impl Mode {
 fn is_marked(mark: Option<Number>, number: Number) -> bool
     ensures { result ≡ marked mark number.0 }
 {
-    let Some(mark) = mark else {
-        return false;
-    };
-    number.0 <= mark.0
+    mark.is_some_and(|mark| number <= mark)
 }
 
 fn mark_fits(mark: Option<Number>) -> bool
     ensures { result ≡ mark_fits mark }
 {
-    let Some(mark) = mark else {
-        return true;
-    };
-    mark.0 <= 1_000_000_000
+    mark.is_none_or(|mark| mark <= Number::HIGHEST)
 }
 
 fn component_fits(replica: u8, mark: Option<Number>, component: Option<View>) -> bool
@@ -67,9 +56,9 @@ fn recorded_fits(replica: u8, top: Stamp, mark: Option<Number>, recorded: Option
         return true;
     };
     view.set.contains(replica)
-        && view.number.0 >= 1
+        && view.number >= Number(1)
         && is_marked(mark, view.number)
-        && stamp.0 <= top.0
+        && stamp <= top
 }
 
 fn numbers_follow(component: Option<View>, recorded: Option<Recorded>) -> bool
@@ -101,7 +90,7 @@ impl Page {
     // Whether this may be the page of the replica.
     pub fn keeps_rules(&self, replica: u8) -> bool
         ensures test { result ≡ keeps_rules replica self.now }
-        ensures rules { Decides result (PageRules replica self.now) }
+        ensures rules { IsTrue result ↔ PageRules replica self.now }
     {
         self.passes(replica)
     }

@@ -1,31 +1,28 @@
 // What a store promises.
-ghost use Rattle.std.specs.Prelude.{◌≡◌, ℕ, ◌<◌, true, List, length};
+ghost use Rattle.std.specs.Prelude.{◌≡◌, ℕ, List, length, OnOk};
 ghost use Rattle.stores.specs.Kept.{page_at, Sound, Written, Cut};
-ghost use Rattle.stores.specs.Rules.{keeps_rules};
 ghost use Rattle.stores.specs.declared.page.Page.{Page};
 
+use super::kept_page::KeptPage;
 use super::page::Page;
-use quorum::Fault;
+use quorum::{Fault, Replica};
 
-// Sixteen pages, each keeping the rules for its replica, and a count of places for writes. Pages that break the rules
-// are kept out by a premise: a caller shows that what it writes keeps them, so a store need not hold any other.
+// Sixteen pages, each keeping the rules for its replica, and a count of places for writes. What is written is a page that
+// keeps the rules, so a store need not hold any other.
 pub trait Store {
     ghost pages: { Self → List Page };
 
     ghost places: { Self → ℕ };
 
-    fn read(&self, replica: u8) -> Page
-        requires { replica < 16 }
+    fn read(&self, replica: Replica) -> Page
         ensures { result ≡ page_at (pages self.now) replica };
 
     fn places(&self) -> u32
         ensures { result ≡ places self.now };
 
     // Replaces one page and uses at most one place; with none left it is refused and changes nothing.
-    fn write(&mut self, replica: u8, page: Page) -> Result<(), Fault>
-        requires within { replica < 16 }
-        requires kept { keeps_rules replica page ≡ true }
-        ensures { Written (pages self.old) (places self.old) (pages self.new) (places self.new) replica page result };
+    fn write(&mut self, kept: KeptPage) -> Result<(), Fault>
+        ensures { Written (pages self.old) (places self.old) (pages self.new) (places self.new) kept.replica kept.page result };
 
     ghost sixteen: { (s : Self) → length (pages s) ≡ 16 };
 
@@ -34,9 +31,11 @@ pub trait Store {
 
 // A store whose writes can be broken off.
 pub trait Breakable: Store {
+    // Which page a write broken off after so many byte-writes may leave, where one was and another was to be written.
+    ghost leaves: { ℕ → Page → Page → Page → Type 0 };
+
     // A write broken off after n byte-writes: the page is whole, the old or the new one, and no other page changes.
-    fn cut(&mut self, replica: u8, page: Page, n: u64) -> Result<(), Fault>
-        requires within { replica < 16 }
-        requires kept { keeps_rules replica page ≡ true }
-        ensures { Cut (Self.Store.pages self.old) (Self.Store.places self.old) (Self.Store.pages self.new) (Self.Store.places self.new) replica page result };
+    fn cut(&mut self, kept: KeptPage, n: u64) -> Result<(), Fault>
+        ensures cut { Cut (Self.Store.pages self.old) (Self.Store.places self.old) (Self.Store.pages self.new) (Self.Store.places self.new) kept.replica kept.page result }
+        ensures left { OnOk result (leaves n (page_at (Self.Store.pages self.old) kept.replica) kept.page (page_at (Self.Store.pages self.new) kept.replica)) };
 }

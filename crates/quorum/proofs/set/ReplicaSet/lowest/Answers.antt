@@ -1,9 +1,14 @@
 use Rattle.std.proofs.Common.{sym, rules}
-use Rattle.quorum.proofs.Below.{lowest_from, lowest_none_from}
+use Rattle.quorum.proofs.Below.{everybody_at, length-everybody, lowest_from, lowest_none_from}
 use Rattle.quorum.proofs.set.ReplicaSet.lowest.Goals as goal
 
 pub returns-then-contains : goal.returns-then-contains
-returns-then-contains c = sym (lowest_from c.args.self.0 c.loop-replica.replica (search rules) (search rules) c.loop-replica.invariant)
+returns-then-contains c =
+    let at = everybody_at c.loop-replica.replica-index c.replica-item.result (search (rules, length-everybody)) in
+    sym (lowest_from c.args.self.0 _ (search rules) (search rules) (search rules))
+
+pub loop-replica-preserved : goal.loop-replica-preserved
+loop-replica-preserved c = let at = everybody_at c.loop-replica.replica-index c.replica-item.result (search (rules, length-everybody)) in search rules
 
 pub returns : goal.returns
-returns c = sym (lowest_none_from c.args.self.0 (λ k l. c.loop-replica.invariant k (search rules)))
+returns c = sym (lowest_none_from c.args.self.0 (search (rules, length-everybody)))

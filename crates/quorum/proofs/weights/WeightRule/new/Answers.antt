@@ -1,12 +1,9 @@
-use Rattle.std.proofs.Common.{sym, refl, arith, rules}
-use Rattle.std.proofs.lemmas.Bool.{ne_eqb}
-use Rattle.quorum.proofs.Below.{any_from, any_none_from}
+use Rattle.std.proofs.Common.{rules, nat_eq}
+use Rattle.quorum.proofs.Below.{any_answered}
 use Rattle.quorum.proofs.weights.WeightRule.new.Goals as goal
 
-pub returns-then-weights-replica-eq0 : goal.returns-then-weights-replica-eq0
-returns-then-weights-replica-eq0 c =
-    record { kept = refl; refused = sym (any_from _ 16 c.loop-replica.replica (search rules) (search rules)) }
+pub returns-in_err-refuse_if-clause-refused : goal.returns-in_err-refuse_if-clause-refused
+returns-in_err-refuse_if-clause-refused c = let at = any_answered (λ w. nat_eq w 0) 0 c.args.weights _ c.contains.ensures.cases in search rules
 
-pub returns : goal.returns
-returns c =
-    record { kept = refl; refused = sym (any_none_from _ 16 (λ k l. ne_eqb _ 0 (let h = c.loop-replica.invariant k (search rules) in omega (arith, h)))) }
+pub returns-clause-refused : goal.returns-clause-refused
+returns-clause-refused c = let at = any_answered (λ w. nat_eq w 0) 0 c.args.weights _ c.contains.ensures.cases in search rules
