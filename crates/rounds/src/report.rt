@@ -36,20 +36,14 @@ impl Report {
     fn is_at(&self, view: View) -> bool
         ensures { result ≡ at_view view self.now }
     {
-        let Some(component) = self.component else {
-            return false;
-        };
-        component.is(view)
+        self.component == Some(view)
     }
 
     // At the view, with this recorded: number, set and stamp alike.
     fn holds(&self, view: View, recorded: Recorded) -> bool
         ensures { result ≡ holds view recorded self.now }
     {
-        let Some(own) = self.recorded else {
-            return false;
-        };
-        self.is_at(view) && own.is(recorded)
+        self.is_at(view) && self.recorded == Some(recorded)
     }
 
     // At the view with nothing recorded, or with a mark that is absent or at most the view's number.
