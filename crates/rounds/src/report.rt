@@ -64,19 +64,13 @@ impl Report {
     fn is_marked_above(&self, number: Number) -> bool
         ensures { result ≡ marked_above number.0 self.now }
     {
-        let Some(mark) = self.mark else {
-            return false;
-        };
-        number.0 < mark.0
+        self.mark.is_some_and(|mark| number < mark)
     }
 
     // Its mark exceeds the number after this one. Any number may be reported, so the sum has room of its own.
     pub(crate) fn is_marked_past(&self, number: Number) -> bool
         ensures { result ≡ marked_above (number.0 + 1) self.now }
     {
-        let Some(mark) = self.mark else {
-            return false;
-        };
-        u64::from(number.0) + 1 < u64::from(mark.0)
+        self.mark.is_some_and(|mark| u64::from(number.0) + 1 < u64::from(mark.0))
     }
 }

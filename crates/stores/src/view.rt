@@ -5,11 +5,11 @@ ghost use Rattle.stores.specs.Views.{same_view, same_recorded, same_head};
 use quorum::ReplicaSet;
 
 // Names one announcement of the view maker.
-#[derive(Clone, Copy, PartialEq, Eq, Debug)]
+#[derive(Clone, Copy, PartialEq, Eq, PartialOrd, Ord, Debug)]
 pub struct Stamp(pub u32);
 
 // A view's number. The highest is 1,000,000,000.
-#[derive(Clone, Copy, PartialEq, Eq, Debug)]
+#[derive(Clone, Copy, PartialEq, Eq, PartialOrd, Ord, Debug)]
 pub struct Number(pub u32);
 
 // A numbered set of replicas.
