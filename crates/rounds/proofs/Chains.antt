@@ -6,7 +6,7 @@ use Rattle.std.proofs.lemmas.Iterator.Consumers.{YieldsList-from_shown}
 use Rattle.std.proofs.lemmas.Bool.{false≢true}
 use Rattle.std.proofs.Math.Bool.{or_assoc, or-false}
 use Rattle.std.specs.Iterator.Adapters.{option_iter_item, option_iter_done, option_iter_steps, flatten_source, flatten_front, flatten_back, flatten_done, flatten_steps}
-use Rattle.std.specs.List.{flat_map, list_any}
+use Rattle.std.specs.List.{flat_map, list_any, find, filter_map, cons_option}
 use Rattle.std.specs.Option.{option_to_list}
 use Rattle.std.specs.Slice.Iter.{iter_rest}
 use Rattle.std.proofs.iter.Yields.{fronts}
@@ -68,7 +68,25 @@ module _ {A : Type 0} where
   first_front g zero = sym (or_else_none (g 0))
   first_front g (suc n) = ap (λ o. or_else o (g (suc n))) (first_front g n) ∙ or_else_assoc (g 0) _ (g (suc n))
 
+  first_zero : (g : ℕ → Option A) → first g 0 ≡ None
+  unfolding first
+  first_zero g = refl
+
   pub any_there : (p : A → Bool) (os : List (Option A)) → list_any p (there os) ≡ any (λ q. present p (get_or os q None)) (length os)
   any_there p [] = sym (any_zero _)
   any_there p (None ∷ os) = any_there p os ∙ sym (any_front (λ q. present p (get_or (None ∷ os) q None)) (length os))
   any_there p (Some a ∷ os) = ap (λ b. p a || b) (any_there p os) ∙ sym (any_front (λ q. present p (get_or (Some a ∷ os) q None)) (length os))
+
+module _ {A B : Type 0} (offer : A → Option B) (test : B → Bool) where
+  found_more : (o : Option B) (bs : List B) → find test (cons_option o bs) ≡ or_else (find test (option_to_list o)) (find test bs)
+  found_more None bs = refl
+  found_more (Some b) bs = elim (test b) as (λ t. cond t (Some b) (find test bs) ≡ or_else (cond t (Some b) None) (find test bs)) [ true ↦ refl | false ↦ refl ]
+
+  -- the first that passes of what is offered, where g says what passes of one
+  pub find_there : (g : Option A → Option B) → g None ≡ None → ((a : A) → g (Some a) ≡ find test (option_to_list (offer a))) →
+      (os : List (Option A)) → find test (filter_map offer (there os)) ≡ first (λ q. g (get_or os q None)) (length os)
+  find_there g none some [] = sym (first_zero _)
+  find_there g none some (None ∷ os) =
+      find_there g none some os ∙ ap (λ o. or_else o (first (λ q. g (get_or os q None)) (length os))) (sym none) ∙ sym (first_front (λ q. g (get_or (None ∷ os) q None)) (length os))
+  find_there g none some (Some a ∷ os) =
+      found_more (offer a) (filter_map offer (there os)) ∙ ap₂ or_else (sym (some a)) (find_there g none some os) ∙ sym (first_front (λ q. g (get_or (Some a ∷ os) q None)) (length os))

@@ -78,16 +78,9 @@ pub(crate) fn backed<R: QuorumRule>(
 ) -> Option<Recorded>
     ensures { result ≡ backed (R.carries rule.now) reports.now view }
 {
-    for replica in 0..16u8 {
-        let Some(report) = reported(reports, replica) else {
-            continue;
-        };
-        let Some(recorded) = report.recorded else {
-            continue;
-        };
-        if rule.carries(holders(reports, view, recorded), view.set) {
-            return Some(recorded);
-        }
-    }
-    None
+    reports
+        .iter()
+        .flatten()
+        .filter_map(|report| report.recorded)
+        .find(|recorded| rule.carries(holders(reports, view, *recorded), view.set))
 }
