@@ -1,3 +1,4 @@
+pub mod Chains
 pub mod Highest
 pub mod Membership
 pub mod Grounds

@@ -64,15 +64,10 @@ pub(crate) fn level_members(reports: &[Option<Report>; 16], view: View) -> Repli
 pub(crate) fn any_marked_past(reports: &[Option<Report>; 16], number: Number) -> bool
     ensures { result ≡ any_mark_above reports.now (number.0 + 1) }
 {
-    for replica in 0..16u8 {
-        let Some(report) = reported(reports, replica) else {
-            continue;
-        };
-        if report.is_marked_past(number) {
-            return true;
-        }
-    }
-    false
+    reports
+        .iter()
+        .flatten()
+        .any(|report| report.is_marked_past(number))
 }
 
 // What was recorded by so many members of the view that they carry it.
@@ -83,16 +78,9 @@ pub(crate) fn backed<R: QuorumRule>(
 ) -> Option<Recorded>
     ensures { result ≡ backed (R.carries rule.now) reports.now view }
 {
-    for replica in 0..16u8 {
-        let Some(report) = reported(reports, replica) else {
-            continue;
-        };
-        let Some(recorded) = report.recorded else {
-            continue;
-        };
-        if rule.carries(holders(reports, view, recorded), view.set) {
-            return Some(recorded);
-        }
-    }
-    None
+    reports
+        .iter()
+        .flatten()
+        .filter_map(|report| report.recorded)
+        .find(|recorded| rule.carries(holders(reports, view, *recorded), view.set))
 }

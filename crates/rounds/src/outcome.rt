@@ -5,23 +5,23 @@ ghost use Rattle.rounds.specs.Outcomes.{outcome_number};
 #[derive(Clone, Copy, PartialEq, Eq, Debug)]
 pub enum Outcome {
     // Settled on what was recorded, since its holders carry the presumed view.
-    SettledByHolders,
+    SettledByHolders = 1,
     // Settled on the presumed view, since its clear members carry it.
-    SettledByClear,
+    SettledByClear = 2,
     // Settled on the presumed view, since all its members are at it or clear.
-    SettledByAll,
+    SettledByAll = 3,
     // A member of the round was lost.
-    LostMember,
+    LostMember = 4,
     // Nobody reports a component view.
-    NoComponent,
+    NoComponent = 5,
     // The presumed view is not carried by those of its members that are in the round.
-    NotCarried,
+    NotCarried = 6,
     // Somebody's mark exceeds the number after the presumed view's.
-    MarkedPast,
+    MarkedPast = 7,
     // All have reported, and none of the others applies.
-    Undecided,
+    Undecided = 8,
     // The replica is behind and becomes a spare.
-    Spare,
+    Spare = 9,
 }
 
 impl Outcome {
@@ -29,16 +29,6 @@ impl Outcome {
     pub fn number(self) -> u8
         ensures { result ≡ outcome_number self }
     {
-        match self {
-            Outcome::SettledByHolders => 1,
-            Outcome::SettledByClear => 2,
-            Outcome::SettledByAll => 3,
-            Outcome::LostMember => 4,
-            Outcome::NoComponent => 5,
-            Outcome::NotCarried => 6,
-            Outcome::MarkedPast => 7,
-            Outcome::Undecided => 8,
-            Outcome::Spare => 9,
-        }
+        self as u8
     }
 }

@@ -10,19 +10,12 @@ use stores::View;
 fn higher(found: Option<View>, report: &Option<Report>) -> Option<View>
     ensures { result ≡ higher found (component_of report.now) }
 {
-    let Some(report) = report else {
+    let Some(view) = report.and_then(|report| report.component) else {
         return found;
     };
-    let Some(view) = report.component else {
-        return found;
-    };
-    let Some(best) = found else {
-        return Some(view);
-    };
-    if best.number.0 < view.number.0 {
-        Some(view)
-    } else {
-        Some(best)
+    match found {
+        Some(best) if view.number <= best.number => found,
+        _ => Some(view),
     }
 }
 

@@ -36,20 +36,14 @@ impl Report {
     fn is_at(&self, view: View) -> bool
         ensures { result ≡ at_view view self.now }
     {
-        let Some(component) = self.component else {
-            return false;
-        };
-        component.is(view)
+        self.component == Some(view)
     }
 
     // At the view, with this recorded: number, set and stamp alike.
     fn holds(&self, view: View, recorded: Recorded) -> bool
         ensures { result ≡ holds view recorded self.now }
     {
-        let Some(own) = self.recorded else {
-            return false;
-        };
-        self.is_at(view) && own.is(recorded)
+        self.is_at(view) && self.recorded == Some(recorded)
     }
 
     // At the view with nothing recorded, or with a mark that is absent or at most the view's number.
@@ -70,19 +64,13 @@ impl Report {
     fn is_marked_above(&self, number: Number) -> bool
         ensures { result ≡ marked_above number.0 self.now }
     {
-        let Some(mark) = self.mark else {
-            return false;
-        };
-        number.0 < mark.0
+        self.mark.is_some_and(|mark| number < mark)
     }
 
     // Its mark exceeds the number after this one. Any number may be reported, so the sum has room of its own.
     pub(crate) fn is_marked_past(&self, number: Number) -> bool
         ensures { result ≡ marked_above (number.0 + 1) self.now }
     {
-        let Some(mark) = self.mark else {
-            return false;
-        };
-        u64::from(number.0) + 1 < u64::from(mark.0)
+        self.mark.is_some_and(|mark| u64::from(number.0) + 1 < u64::from(mark.0))
     }
 }

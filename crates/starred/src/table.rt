@@ -1,7 +1,7 @@
 // The table.
 ghost use Rattle.std.specs.Prelude.{◌≡◌, true};
 ghost use Rattle.quorum.specs.Members.{listed, majority};
-ghost use Rattle.starred.specs.Examples.{heavy, settles, shows, every};
+ghost use Rattle.starred.specs.Examples.{heavy, shows, every};
 ghost use Rattle.starred.specs.Table.{table};
 
 use super::round::Round;
@@ -27,10 +27,7 @@ impl Example {
         match self {
             Example::Count(part, set, carried) => CountRule.carries(*part, *set) == *carried,
             Example::Weight(part, set, carried) => heavy_carries(*part, *set) == *carried,
-            Example::Ends(round, outcome, settled) => {
-                let (end, view) = round.end();
-                end.number() == outcome.number() && same_settled(view, *settled)
-            }
+            Example::Ends(round, outcome, settled) => round.end() == (*outcome, *settled),
         }
     }
 }
@@ -42,16 +39,6 @@ fn heavy_carries(part: ReplicaSet, set: ReplicaSet) -> bool
         return false;
     };
     rule.carries(part, set)
-}
-
-fn same_settled(one: Option<View>, other: Option<View>) -> bool
-    ensures { result ≡ settles one other }
-{
-    match (one, other) {
-        (Some(view), Some(wanted)) => view.is(wanted),
-        (None, None) => true,
-        _ => false,
-    }
 }
 
 // Bit r of a set stands for replica r.

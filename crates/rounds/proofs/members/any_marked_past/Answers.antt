@@ -1,12 +1,16 @@
-use Rattle.std.proofs.Common.{◌+◌, arith, rules}
-use Rattle.quorum.proofs.Below.{any_from, any_none_from}
-use Rattle.rounds.specs.Reports.{reported, present, marked_above}
+use Rattle.std.proofs.Common.{◌+◌, ◌∙◌, rules, ap}
+use Rattle.std.proofs.lemmas.Iterator.Search.{any_from_yields_List}
+use borrow.Author.Tests.{tests}
+use Rattle.std.specs.Slice.Iter.{iter_rest}
+use Rattle.quorum.specs.Below.{any}
+use Rattle.rounds.specs.Reports.{marked_above, reported, present}
+use Rattle.rounds.proofs.Chains.{any_there, flatten_yields}
 use Rattle.rounds.proofs.members.any_marked_past.Goals as goal
 
-pub returns-then-is_marked_past : goal.returns-then-is_marked_past
-returns-then-is_marked_past c =
-    let some = any_from (λ q. present (marked_above (c.args.number.0 + 1)) (reported c.args.reports.now q)) 16 c.loop-replica.replica (omega arith) (search rules) in
-    search rules
-
 pub returns : goal.returns
-returns c = search (rules, any_none_from)
+returns c =
+    let rs = c.args.reports.now in
+    let p = marked_above (c.args.number.0 + 1) in
+    any_from_yields_List p _ _ _ c.any.ensures.ran
+    (flatten_yields _ rs (λ x j b. (b.0, b.1)) (ap iter_rest c.flatten.ensures.source ∙ c.iter.ensures.rest) c.flatten.ensures.front c.flatten.ensures.back c.flatten.ensures.done) (λ x b q k. search (rules, tests)) ∙
+    any_there p rs ∙ ap (any (λ q. present p (reported rs q))) c.told-reports

@@ -1,0 +1,92 @@
+-- The reports in turn, as chains of iterators give them: the chain's answer is that of the replicas below their number. Assumes nothing.
+use Rattle.std.proofs.Common.{◌≡◌, ℕ, zero, suc, Bool, true, false, cond, ◌||◌, List, [], ◌∷◌, length, get_or, Some, None, Option, sym, refl, ap, ◌∙◌, ap₂, subst, IsTrue, MatchBool}
+use Rattle.std.proofs.lemmas.Iterator.{YieldsList, YieldsList-from_slice}
+use Rattle.std.proofs.lemmas.Iterator.Adapters.{YieldsList-from_flatten}
+use Rattle.std.proofs.lemmas.Iterator.Consumers.{YieldsList-from_shown}
+use Rattle.std.proofs.lemmas.Bool.{false≢true}
+use Rattle.std.proofs.Math.Bool.{or_assoc, or-false}
+use Rattle.std.specs.Iterator.Adapters.{option_iter_item, option_iter_done, option_iter_steps, flatten_source, flatten_front, flatten_back, flatten_done, flatten_steps}
+use Rattle.std.specs.List.{flat_map, list_any, find, filter_map, cons_option}
+use Rattle.std.specs.Option.{option_to_list}
+use Rattle.std.specs.Slice.Iter.{iter_rest}
+use Rattle.std.proofs.iter.Yields.{fronts}
+use denote.Ref.{Bor}
+use Rattle.quorum.specs.Below.{any, or_else, first}
+use Rattle.rounds.specs.Reports.{present}
+
+-- ---- from the front
+any_front : (f : ℕ → Bool) (n : ℕ) → any f (suc n) ≡ (f 0 || any (λ k. f (suc k)) n)
+unfolding any
+any_front f zero = sym (or-false (f 0))
+any_front f (suc n) = ap (λ b. b || f (suc n)) (any_front f n) ∙ or_assoc (f 0) _ (f (suc n))
+
+any_zero : (f : ℕ → Bool) → any f 0 ≡ false
+unfolding any
+any_zero f = refl
+
+module _ {A : Type 0} where
+  -- ---- the chain `iter().flatten()`
+  -- what is left of an option that is gone through
+  abbrev left : Bool → Option A → List A
+  left done o = cond done [] (option_to_list o)
+
+  left_none : (d : Bool) (o : Option A) → MatchBool d (◌≡◌ {A = Option (Bor A)} None None) (◌≡◌ {A = Option A} None o) → length (left d o) ≡ 0
+  left_none true o e = refl
+  left_none false o e = ap (λ k. length (option_to_list k)) (sym e)
+
+  left_some : (d e : Bool) (o p : Option A) (x : Bor A) → IsTrue e → MatchBool d (◌≡◌ {A = Option (Bor A)} (Some x) None) (Some x.now ≡ o) → left d o ≡ x.now ∷ left e p
+  left_some true e o p x t m = cc
+  left_some false true o p x t m = ap option_to_list (sym m)
+  left_some false false o p x t m = absurd (false≢true t)
+
+  option_yields : {s : _} (o : Option A) → option_iter_item s ≡ o → option_iter_done s ≡ false → YieldsList option_iter_steps (λ y. y.now) s (option_to_list o)
+  option_yields {s} o i d =
+      subst (YieldsList option_iter_steps (λ y. y.now) s) (ap₂ left d i)
+      (YieldsList-from_shown option_iter_steps (λ y. y.now) (λ u. left (option_iter_done u) (option_iter_item u)) (λ u t m. left_none _ _ m.1)
+      (λ u x t m. left_some _ _ _ _ x m.0 m.1) s)
+
+  -- those that are there
+  abbrev pub there : List (Option A) → List A
+  there os = flat_map option_to_list os
+
+  pub flatten_yields : {s : _} (becomes : Bor (Option A) → _ → Type 0) (os : List (Option A)) → ((x : Bor (Option A)) (j : _) → becomes x j → (option_iter_item j ≡ x.now) × (option_iter_done j ≡ false)) →
+      iter_rest (flatten_source s) ≡ os → flatten_front s ≡ None → flatten_back s ≡ None → flatten_done s ≡ false → YieldsList (flatten_steps fronts becomes option_iter_steps) (λ y. y.now) s (there os)
+  flatten_yields becomes os opens source front back done =
+      YieldsList-from_flatten becomes option_iter_steps (λ y. y.now) option_to_list (λ x j b. let e = opens x j b in option_yields x.now e.0 e.1)
+      (YieldsList-from_slice os source) front back done
+
+  or_else_none : (o : Option A) → or_else o None ≡ o
+  or_else_none None = refl
+  or_else_none (Some a) = refl
+
+  or_else_assoc : (a b c : Option A) → or_else (or_else a b) c ≡ or_else a (or_else b c)
+  or_else_assoc None b c = refl
+  or_else_assoc (Some a) b c = refl
+
+  first_front : (g : ℕ → Option A) (n : ℕ) → first g (suc n) ≡ or_else (g 0) (first (λ k. g (suc k)) n)
+  unfolding first
+  first_front g zero = sym (or_else_none (g 0))
+  first_front g (suc n) = ap (λ o. or_else o (g (suc n))) (first_front g n) ∙ or_else_assoc (g 0) _ (g (suc n))
+
+  first_zero : (g : ℕ → Option A) → first g 0 ≡ None
+  unfolding first
+  first_zero g = refl
+
+  pub any_there : (p : A → Bool) (os : List (Option A)) → list_any p (there os) ≡ any (λ q. present p (get_or os q None)) (length os)
+  any_there p [] = sym (any_zero _)
+  any_there p (None ∷ os) = any_there p os ∙ sym (any_front (λ q. present p (get_or (None ∷ os) q None)) (length os))
+  any_there p (Some a ∷ os) = ap (λ b. p a || b) (any_there p os) ∙ sym (any_front (λ q. present p (get_or (Some a ∷ os) q None)) (length os))
+
+module _ {A B : Type 0} (offer : A → Option B) (test : B → Bool) where
+  found_more : (o : Option B) (bs : List B) → find test (cons_option o bs) ≡ or_else (find test (option_to_list o)) (find test bs)
+  found_more None bs = refl
+  found_more (Some b) bs = elim (test b) as (λ t. cond t (Some b) (find test bs) ≡ or_else (cond t (Some b) None) (find test bs)) [ true ↦ refl | false ↦ refl ]
+
+  -- the first that passes of what is offered, where g says what passes of one
+  pub find_there : (g : Option A → Option B) → g None ≡ None → ((a : A) → g (Some a) ≡ find test (option_to_list (offer a))) →
+      (os : List (Option A)) → find test (filter_map offer (there os)) ≡ first (λ q. g (get_or os q None)) (length os)
+  find_there g none some [] = sym (first_zero _)
+  find_there g none some (None ∷ os) =
+      find_there g none some os ∙ ap (λ o. or_else o (first (λ q. g (get_or os q None)) (length os))) (sym none) ∙ sym (first_front (λ q. g (get_or (None ∷ os) q None)) (length os))
+  find_there g none some (Some a ∷ os) =
+      found_more (offer a) (filter_map offer (there os)) ∙ ap₂ or_else (sym (some a)) (find_there g none some os) ∙ sym (first_front (λ q. g (get_or (Some a ∷ os) q None)) (length os))
