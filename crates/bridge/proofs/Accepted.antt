@@ -21,23 +21,18 @@ use Rattle.rows.specs.declared.message.Message.{Message}
 use Rattle.rows.specs.declared.row.Row.{Row}
 use Rattle.rows.specs.declared.row.Stage.{Stage}
 use Rattle.rows.specs.declared.row.Stage.TheVariants.{Idle, Gathering, Confirming, Applying, Entering, Round}
-use Rattle.manager.specs.Calls.{refusal, refused_if, first_of, all_keep, offer_refusal, call_refusal, head_of, is_open, announcement_refusal, view_refusal, message_refusal, head_refusal, delivery_refusal, lost_refusal, loss_refusal, unless_refused}
+use Rattle.manager.specs.Calls.{refusal, first_of, all_keep, offer_refusal, call_refusal, head_of, is_open, announcement_refusal, view_refusal, message_refusal, head_refusal, delivery_refusal, lost_refusal, loss_refusal, unless_refused}
 use Rattle.manager.specs.Effects.{Effect}
 use Rattle.safety.proofs.Marks.{none_some, false_true}
 use Rattle.bridge.proofs.Judged.{Staged, Confirms}
 use Rattle.bridge.proofs.Options.{present_is, ok_inj, err_ok}
+use Rattle.quorum.specs.Faults.{refused_if}
+use Rattle.quorum.proofs.Refused.{neither, not_refused}
 
 -- ---- refusals
 pub accepted : (x : Option Fault) (e d : Effect) → unless_refused x e ≡ Ok d → (x ≡ None) × (e ≡ d)
 accepted None e d h = (refl, ok_inj h)
 accepted (Some y) e d h = absurd (err_ok h)
-
-neither : (a b : Option Fault) → first_of a b ≡ None → (a ≡ None) × (b ≡ None)
-neither None b h = (refl, h)
-neither (Some x) b h = absurd (none_some (sym h))
-
-unrefused : (b : Bool) (why : Reason) (r : ℕ) → refused_if b why r ≡ None → b ≡ false
-unrefused b why r h = ⊎_elim (λ e. absurd (none_some (sym h ∙ cond-true b (Some (refusal why r)) None e))) (λ e. e) (cases_Bool b)
 
 -- ---- the rules of page and row
 pub record Offered (r : ℕ) (p : Page) (w : Row) : Type 0 where
@@ -47,9 +42,9 @@ pub record Offered (r : ℕ) (p : Page) (w : Row) : Type 0 where
 
 offered : (r : ℕ) (p : Page) (w : Row) → offer_refusal r p w ≡ None → Offered r p w
 offered r p w h =
-    let a = neither (refused_if (not (all_keep r p w)) AgainstRules r) (refused_if (leb 16 r) NoSuchReplica r) h in
-    let k = and_parts (keeps_rules r p) (row_keeps r p w) (not-false (all_keep r p w) (unrefused (not (all_keep r p w)) AgainstRules r a.0)) in
-    record { rules = rules_from r p k.0; row = k.1; below = leb-false 16 r (unrefused (leb 16 r) NoSuchReplica r a.1) }
+    let a = neither (refused_if (not (all_keep r p w)) (refusal AgainstRules r)) (refused_if (leb 16 r) (refusal NoSuchReplica r)) h in
+    let k = and_parts (keeps_rules r p) (row_keeps r p w) (not-false (all_keep r p w) (not_refused (not (all_keep r p w)) (refusal AgainstRules r) a.0)) in
+    record { rules = rules_from r p k.0; row = k.1; below = leb-false 16 r (not_refused (leb 16 r) (refusal NoSuchReplica r) a.1) }
 
 mode_normal : (m : Mode) → is_normal m ≡ true → m ≡ Normal
 mode_normal Waiting e = absurd (false_true e)
@@ -122,8 +117,8 @@ staged r p w o = stage_staged r p w.up w w.stage o.rules (stage_kept r p w o.row
 -- ---- calls at a replica that is up
 pub called : (r : ℕ) (p : Page) (w : Row) → call_refusal r p w ≡ None → Offered r p w × (w.up ≡ true)
 called r p w h =
-    let a = neither (offer_refusal r p w) (refused_if (not w.up) WrongPower r) h in
-    (offered r p w a.0, not-false w.up (unrefused (not w.up) WrongPower r a.1))
+    let a = neither (offer_refusal r p w) (refused_if (not w.up) (refusal WrongPower r)) h in
+    (offered r p w a.0, not-false w.up (not_refused (not w.up) (refusal WrongPower r) a.1))
 
 -- ---- a view
 closed_stage : (s : Stage) → is_open (head_of s) ≡ false → s ≡ Idle
@@ -146,15 +141,15 @@ unfolding view_refusal
 announced r p w h e =
     let a = neither (call_refusal r p w) (announcement_refusal r p w h) e in
     let c = called r p w a.0 in
-    let b = neither (refused_if (not (has h.set.0 r)) ViewWithoutReplica r) _ a.1 in
-    let d = neither (refused_if (is_open (head_of w.stage)) HeadOpen r) _ b.1 in
-    let f = neither (refused_if (leb h.stamp.0 p.top.0) StampNotAbove r) _ d.1 in
+    let b = neither (refused_if (not (has h.set.0 r)) (refusal ViewWithoutReplica r)) _ a.1 in
+    let d = neither (refused_if (is_open (head_of w.stage)) (refusal HeadOpen r)) _ b.1 in
+    let f = neither (refused_if (leb h.stamp.0 p.top.0) (refusal StampNotAbove r)) _ d.1 in
     record {
       offer = c.0;
       up = c.1;
-      member = not-false (has h.set.0 r) (unrefused _ ViewWithoutReplica r b.0);
-      idle = closed_stage w.stage (unrefused _ HeadOpen r d.0);
-      above = leb-false h.stamp.0 p.top.0 (unrefused _ StampNotAbove r f.0);
+      member = not-false (has h.set.0 r) (not_refused _ (refusal ViewWithoutReplica r) b.0);
+      idle = closed_stage w.stage (not_refused _ (refusal HeadOpen r) d.0);
+      above = leb-false h.stamp.0 p.top.0 (not_refused _ (refusal StampNotAbove r) f.0);
     }
 
 -- an idle replica that is up is not joining
@@ -175,9 +170,9 @@ pub record Delivered (r : ℕ) (p : Page) (w : Row) (m : Message) : Type 0 where
 under_head_is : (r : ℕ) (w : Row) (m : Message) (o : Option Head) → head_refusal r w m o ≡ None → (o ≡ Some m.head) × (r ≢ m.sender)
 under_head_is r w m None e = absurd (none_some (sym e))
 under_head_is r w m (Some h) e =
-    let a = neither (refused_if (not (same_head m.head h)) OtherHead r) (refused_if (eqb m.sender r || has w.lost.0 m.sender) WrongParty r) e in
-    let same : m.head ≡ h = (decides_head m.head h).0 (not-false (same_head m.head h) (unrefused _ OtherHead r a.0)) in
-    let b = or_parts (eqb m.sender r) (has w.lost.0 m.sender) (unrefused _ WrongParty r a.1) in
+    let a = neither (refused_if (not (same_head m.head h)) (refusal OtherHead r)) (refused_if (eqb m.sender r || has w.lost.0 m.sender) (refusal WrongParty r)) e in
+    let same : m.head ≡ h = (decides_head m.head h).0 (not-false (same_head m.head h) (not_refused _ (refusal OtherHead r) a.0)) in
+    let b = or_parts (eqb m.sender r) (has w.lost.0 m.sender) (not_refused _ (refusal WrongParty r) a.1) in
     (ap Some (sym same), λ i. eqb-false m.sender r b.0 (sym i))
 
 pub delivered_facts : (r : ℕ) (p : Page) (w : Row) (m : Message) → delivery_refusal r p w m ≡ None → Delivered r p w m
@@ -194,6 +189,6 @@ pub lost_facts : (r : ℕ) (p : Page) (w : Row) (q : ℕ) → loss_refusal r p w
 unfolding loss_refusal
 lost_facts r p w q e =
     let a = neither (offer_refusal r p w) (lost_refusal r w q) e in
-    let b = neither (refused_if (leb 16 q) NoSuchReplica q) _ a.1 in
-    let c = neither (refused_if (not w.up) WrongPower r) _ b.1 in
-    (offered r p w a.0, not-false w.up (unrefused _ WrongPower r c.0))
+    let b = neither (refused_if (leb 16 q) (refusal NoSuchReplica q)) _ a.1 in
+    let c = neither (refused_if (not w.up) (refusal WrongPower r)) _ b.1 in
+    (offered r p w a.0, not-false w.up (not_refused _ (refusal WrongPower r) c.0))

@@ -3,9 +3,9 @@ use Rattle.std.proofs.Common.{◌≡◌, ℕ, ◌+◌, ◌<◌, ◌≤◌, Bool,
 use Rattle.std.proofs.lemmas.List.{get_or-set_same, get_or-set_other}
 use Rattle.std.proofs.lemmas.Bool.{cases_eq, and_parts, eqb-true, false≢true, not-false}
 use Rattle.std.proofs.lemmas.Bool.Decides.{nat_tests}
-use Rattle.manager.specs.Calls.{allowed}
 use Rattle.quorum.proofs.Below.{any_none}
-use Rattle.quorum.specs.Below.{any, or_else}
+use Rattle.std.specs.Option.{option_or}
+use Rattle.quorum.specs.Below.{any}
 use Rattle.quorum.specs.Members.{has}
 use Rattle.quorum.specs.declared.fault.Fault.{Fault}
 use Rattle.quorum.specs.declared.fault.Reason.TheVariants.{BadFounding, NotFresh}
@@ -16,6 +16,7 @@ use Rattle.stores.specs.Rules.{keeps_rules}
 use Rattle.stores.specs.declared.page.Page.{Page}
 use Rattle.stores.specs.declared.view.View.{View}
 use Rattle.runs.specs.Founding.{is_waiting, is_fresh, nameless, nameless_if, founding_refusal, founding_page, FoundedPages}
+use Rattle.quorum.specs.Faults.{allowed}
 
 -- a member's page keeps the rules
 pub founding_keeps : (v : View) (r : ℕ) → has v.set.0 r ≡ true → v.number.0 ≤ 1000000000 → keeps_rules r (founding_page v) ≡ true
@@ -76,7 +77,7 @@ none_if : (b : Bool) (x : Fault) → cond b (Some x) None ≡ None → b ≡ fal
 none_if false x e = refl
 none_if true x e = absurd (let z : ◌≡◌ {A = ℕ} 0 1 = cc in omega arith)
 
-second_none : (b : Bool) (x : Fault) (o : Option Fault) → or_else (cond b (Some x) None) o ≡ None → o ≡ None
+second_none : (b : Bool) (x : Fault) (o : Option Fault) → option_or (cond b (Some x) None) o ≡ None → o ≡ None
 second_none false x o e = e
 second_none true x o e = absurd (let z : ◌≡◌ {A = ℕ} 0 1 = cc in omega arith)
 

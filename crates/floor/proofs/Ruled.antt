@@ -1,12 +1,12 @@
 -- From the floor's and the manager's answers to what a call does. Assumes nothing.
 use Rattle.std.proofs.Common.{◌≡◌, ℕ, ◌<◌, Bool, true, false, cond, ◌&&◌, eqb, leb, ◌⊎◌, [], ◌++◌, length, set, is_ok, IfOk, Some, None, Ok, Err, Option, Result, sym, refl, ap, ◌∙◌, subst, ⊎_elim, append-nil, arith, MatchResult}
 use Rattle.std.proofs.lemmas.Bool.{eq-eqb, ne_eqb}
-use Rattle.quorum.specs.Below.{or_else}
+use Rattle.std.specs.Option.{option_or}
 use Rattle.quorum.specs.declared.fault.Failure.{Failure}
 use Rattle.quorum.specs.declared.fault.Failure.TheVariants.{Refused, NoMemory}
 use Rattle.quorum.specs.declared.fault.Fault.{Fault}
 use Rattle.quorum.specs.declared.fault.Reason.TheVariants.{PostFull, NoSuchMessage}
-use Rattle.manager.specs.Calls.{allowed, answer_of, viewed, lost_at, started_at, stopped_at, call_refusal, unless_refused, empty_row}
+use Rattle.manager.specs.Calls.{answer_of, viewed, lost_at, started_at, stopped_at, call_refusal, unless_refused, empty_row}
 use Rattle.manager.specs.Effects.{Effect, effect}
 use Rattle.manager.specs.declared.answer.Answer.{Answer}
 use Rattle.manager.specs.declared.need.Need.{Need}
@@ -23,6 +23,7 @@ use Rattle.stores.specs.declared.page.Page.{Page}
 use Rattle.floor.specs.Tasks.{managed, task_unless, delivery_task, tasked, wants_room, as_failure}
 use Rattle.floor.specs.declared.task.Task.{Task}
 use Rattle.floor.specs.declared.task.Task.TheVariants as tasks
+use Rattle.quorum.specs.Faults.{allowed}
 
 -- ---- the floor's part
 task_refuses : (o : Option Fault) (t : Task) (x : Fault) (rest : Result Effect Fault) → Err x ≡ task_unless o t → unless o rest ≡ Err x
@@ -83,7 +84,7 @@ module _ (f : ℕ → ℕ → Bool) (w : World) where
 
   -- the post's room, then the store's place
   last_refusal : Work → Bool → Option Fault
-  last_refusal k b = or_else (cond b (Some (floor_refusal PostFull (replica_of k))) None) (cond (eqb w.places 0) (Some (no_place (replica_of k))) None)
+  last_refusal k b = option_or (cond b (Some (floor_refusal PostFull (replica_of k))) None) (cond (eqb w.places 0) (Some (no_place (replica_of k))) None)
 
   ruled_by : (k : Work) (e : Effect) → asked f w k ≡ Ok e → ruled f w k ≡ unless (last_refusal k (wants_room k && leb 65535 (length w.post))) (Ok e)
   unfolding ruled last_refusal

@@ -1,8 +1,8 @@
 // The floor's calls: each at one replica.
 ghost use Rattle.std.specs.Prelude.{◌≡◌, ◌<◌, cond, OnOk};
-ghost use Rattle.manager.specs.Calls.{allowed};
 ghost use Rattle.runs.specs.World.{Did, refused_if, message_at, replica_of, up_test, down_test, loss_test, delivery_test};
 ghost use Rattle.floor.specs.Tasks.{delivery_task, tasked, wants_room};
+ghost use Rattle.quorum.specs.Faults.{allowed};
 
 use super::finish::refusal;
 use super::floor::Floor;

@@ -1,9 +1,10 @@
 // The floor: a rule, a store, sixteen rows and the need.
 ghost use Rattle.std.specs.Prelude.{◌≡◌, false, replicate, if◌then◌else◌, Some, None, OnErr, OnOk, nat_lt};
-ghost use Rattle.manager.specs.Calls.{empty_row, allowed};
+ghost use Rattle.manager.specs.Calls.{empty_row};
 ghost use Rattle.runs.specs.Runs.{Founded};
 ghost use Rattle.stores.specs.Kept.{page_at};
 ghost use Rattle.runs.specs.Founding.{row_at, founding_refusal, Founding};
+ghost use Rattle.quorum.specs.Faults.{allowed};
 
 use super::founding::{check_founding, founding_rows, write_founding};
 use lend::Table;

@@ -1,10 +1,10 @@
 // Founding: the first view, on a store of fresh pages.
 ghost use Rattle.std.specs.Prelude.{◌≡◌, ℕ, ◌+◌, ◌<◌, ◌≤◌, true, false, cond, not, ◌&&◌, ◌||◌, length, Ok};
-ghost use Rattle.manager.specs.Calls.{allowed};
 ghost use Rattle.quorum.specs.Below.{any};
 ghost use Rattle.quorum.specs.Members.{has};
 ghost use Rattle.stores.specs.Kept.{page_at};
 ghost use Rattle.runs.specs.Founding.{row_at, is_fresh, nameless, nameless_if, founding_refusal, founding_page, founding_row, FoundedPages, FoundedRows};
+ghost use Rattle.quorum.specs.Faults.{allowed};
 
 use quorum::{Fault, Layer, Reason, ReplicaSet};
 use rows::{Row, Stage};

@@ -1,8 +1,8 @@
 // Lists of calls: the findings of a whole evening.
 ghost use Rattle.std.specs.Prelude.{◌≡◌, ◌<◌, length, OnErr, OnOk, slice_index_or};
-ghost use Rattle.manager.specs.Calls.{allowed};
 ghost use Rattle.runs.specs.Founding.{founding_refusal};
 ghost use Rattle.floor.specs.Ran.{Ran, Found, Evening};
+ghost use Rattle.quorum.specs.Faults.{allowed};
 
 use super::floor::Floor;
 use manager::Need;

@@ -5,9 +5,10 @@ use Rattle.rows.specs.declared.message.Message.{Message}
 use Rattle.rows.specs.declared.row.Row.{Row}
 use Rattle.stores.specs.declared.page.Page.{Page}
 use Rattle.manager.specs.declared.need.Need.{Need}
-use Rattle.manager.specs.Calls.{allowed, first_of, unless_refused, heard_or_not, delivered_to}
+use Rattle.manager.specs.Calls.{first_of, unless_refused, heard_or_not, delivered_to}
 use Rattle.manager.specs.Hearing.{hears}
 use Rattle.manager.specs.Effects.{Effect}
+use Rattle.quorum.specs.Faults.{allowed}
 
 pub first_refuses : (a b : Option Fault) (e : Fault) → Err e ≡ allowed a → Err e ≡ allowed (first_of a b)
 first_refuses None b e h = absurd (let z : ◌≡◌ {A = ℕ} 0 1 = cc in omega arith)

@@ -15,7 +15,7 @@ pub struct Answer {
 
 impl Answer {
     // Nothing is posted, and no round ended.
-    pub(crate) fn quiet() -> Answer
+    pub fn quiet() -> Answer
         ensures { result ≡ record { posts = Posts.Nothing; ended = None } }
     {
         Answer {

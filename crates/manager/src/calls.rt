@@ -10,9 +10,9 @@ use super::effect::{close, judge_head, judge_loss, spare};
 use super::hear::hear;
 use super::hearing::Hearing;
 use super::need::Need;
-use super::refuse::{check_call, check_delivery, check_loss, check_start, check_view, refusal};
+use super::refuse::{check_call, check_delivery, check_loss, check_start, check_view};
 use super::take_up::{report_message, take_up};
-use quorum::{Fault, QuorumRule, ReplicaSet};
+use quorum::{Fault, Layer, QuorumRule, ReplicaSet};
 use rounds::Outcome;
 use rows::{Message, Posts, Row, Stage};
 use stores::{Head, Mode, Page};
@@ -83,7 +83,7 @@ fn hear_and_follow<R: QuorumRule>(
 {
     match hear(page, row, message.sender, &message.body) {
         Ok(hearing) => Ok(follow(rule, need, replica, page, row, message.head, hearing)),
-        Err(reason) => Err(refusal(reason, replica)),
+        Err(reason) => Err(reason.at(replica, Layer::Manager)),
     }
 }
 

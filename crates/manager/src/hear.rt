@@ -34,10 +34,7 @@ fn is_recorded(recorded: Option<Recorded>, number: Number) -> bool
 fn is_component(component: Option<View>, view: View) -> bool
     ensures { result ≡ as_component component view }
 {
-    let Some(component) = component else {
-        return false;
-    };
-    component.is(view)
+    component == Some(view)
 }
 
 // The number after it is not below the mark.
@@ -53,10 +50,7 @@ fn reaches_mark(mark: Option<Number>, number: Number) -> bool
 fn is_reference(reference: Option<Reference>, view: View) -> bool
     ensures { result ≡ as_reference reference view }
 {
-    let Some(reference) = reference else {
-        return true;
-    };
-    reference.component.is(view)
+    reference.is_none_or(|reference| reference.component == view)
 }
 
 // The first State fixes the reference.

@@ -1,31 +1,11 @@
 // Why a call is turned down: the earliest that applies is given.
 ghost use Rattle.std.specs.Prelude.{◌≡◌, ◌<◌, not, ◌&&◌, ◌||◌, OnOk};
-ghost use Rattle.manager.specs.Calls.{refusal, refused_if, allowed, all_keep, offer_refusal, call_refusal, head_of, is_open, at_highest, announcement_refusal, view_refusal, message_refusal, head_refusal, delivery_refusal, party_refusal, lost_refusal, loss_refusal, start_refusal};
+ghost use Rattle.manager.specs.Calls.{refusal, all_keep, offer_refusal, call_refusal, head_of, is_open, at_highest, announcement_refusal, view_refusal, message_refusal, head_refusal, delivery_refusal, party_refusal, lost_refusal, loss_refusal, start_refusal};
+ghost use Rattle.quorum.specs.Faults.{allowed};
 
-use quorum::{Fault, Layer, Reason};
+use quorum::{Fault, Layer, Reason, refuse_if};
 use rows::{Message, Row, Stage};
 use stores::{Head, Mode, Page, View};
-
-// A refusal of the manager, naming the replica.
-pub(crate) fn refusal(reason: Reason, replica: u8) -> Fault
-    ensures { result ≡ refusal reason replica }
-{
-    Fault {
-        reason,
-        replica: Some(replica),
-        layer: Layer::Manager,
-    }
-}
-
-fn refuse_if(condition: bool, reason: Reason, replica: u8) -> Result<(), Fault>
-    ensures { result ≡ allowed (refused_if condition reason replica) }
-{
-    if condition {
-        Err(refusal(reason, replica))
-    } else {
-        Ok(())
-    }
-}
 
 // Page and row keep the rules, and the replica is one of the sixteen.
 pub(crate) fn check_offer(replica: u8, page: &Page, row: &Row) -> Result<(), Fault>
@@ -33,8 +13,11 @@ pub(crate) fn check_offer(replica: u8, page: &Page, row: &Row) -> Result<(), Fau
     ensures within { OnOk result (replica < 16) }
 {
     let kept = page.keeps_rules(replica) && row.keeps_rules(replica, page);
-    refuse_if(!kept, Reason::AgainstRules, replica)?;
-    refuse_if(replica >= 16, Reason::NoSuchReplica, replica)
+    refuse_if(!kept, Reason::AgainstRules.at(replica, Layer::Manager))?;
+    refuse_if(
+        replica >= 16,
+        Reason::NoSuchReplica.at(replica, Layer::Manager),
+    )
 }
 
 pub(crate) fn check_call(replica: u8, page: &Page, row: &Row) -> Result<(), Fault>
@@ -42,7 +25,7 @@ pub(crate) fn check_call(replica: u8, page: &Page, row: &Row) -> Result<(), Faul
     ensures within { OnOk result (replica < 16) }
 {
     check_offer(replica, page, row)?;
-    refuse_if(!row.up, Reason::WrongPower, replica)
+    refuse_if(!row.up, Reason::WrongPower.at(replica, Layer::Manager))
 }
 
 // The head of a row; idle has none.
@@ -79,13 +62,21 @@ fn check_announcement(replica: u8, page: &Page, row: &Row, head: Head) -> Result
 {
     refuse_if(
         !head.set.contains(replica),
-        Reason::ViewWithoutReplica,
-        replica,
+        Reason::ViewWithoutReplica.at(replica, Layer::Manager),
     )?;
-    refuse_if(is_open(&row.stage), Reason::HeadOpen, replica)?;
-    refuse_if(head.stamp.0 <= page.top.0, Reason::StampNotAbove, replica)?;
+    refuse_if(
+        is_open(&row.stage),
+        Reason::HeadOpen.at(replica, Layer::Manager),
+    )?;
+    refuse_if(
+        head.stamp.0 <= page.top.0,
+        Reason::StampNotAbove.at(replica, Layer::Manager),
+    )?;
     let exhausted = matches!(page.mode, Mode::Normal) && is_at_highest(page.component);
-    refuse_if(exhausted, Reason::NumbersExhausted, replica)
+    refuse_if(
+        exhausted,
+        Reason::NumbersExhausted.at(replica, Layer::Manager),
+    )
 }
 
 pub(crate) fn check_view(replica: u8, page: &Page, row: &Row, head: Head) -> Result<(), Fault>
@@ -101,18 +92,24 @@ pub fn check_message(replica: u8, message: &Message) -> Result<(), Fault>
     ensures test { result ≡ allowed (message_refusal replica message.now) }
     ensures sender { OnOk result (message.now.sender < 16) }
 {
-    refuse_if(!message.keeps_rules(), Reason::AgainstRules, replica)
+    refuse_if(
+        !message.keeps_rules(),
+        Reason::AgainstRules.at(replica, Layer::Manager),
+    )
 }
 
 fn check_head(replica: u8, row: &Row, message: &Message) -> Result<(), Fault>
     ensures { result ≡ allowed (head_refusal replica row.now message.now (head_of row.now.stage)) }
 {
     let Some(head) = head_of(&row.stage) else {
-        return Err(refusal(Reason::NoHead, replica));
+        return Err(Reason::NoHead.at(replica, Layer::Manager));
     };
-    refuse_if(!message.head.is(head), Reason::OtherHead, replica)?;
+    refuse_if(
+        message.head != head,
+        Reason::OtherHead.at(replica, Layer::Manager),
+    )?;
     let wrong = message.sender == replica || row.lost.contains(message.sender);
-    refuse_if(wrong, Reason::WrongParty, replica)
+    refuse_if(wrong, Reason::WrongParty.at(replica, Layer::Manager))
 }
 
 pub(crate) fn check_delivery(
@@ -134,17 +131,17 @@ fn check_party(replica: u8, row: &Row, lost: u8) -> Result<(), Fault>
     ensures { result ≡ allowed (party_refusal replica row.now lost (head_of row.now.stage)) }
 {
     let Some(head) = head_of(&row.stage) else {
-        return Err(refusal(Reason::NoHead, replica));
+        return Err(Reason::NoHead.at(replica, Layer::Manager));
     };
     let wrong = lost == replica || !head.set.contains(lost) || row.lost.contains(lost);
-    refuse_if(wrong, Reason::WrongParty, replica)
+    refuse_if(wrong, Reason::WrongParty.at(replica, Layer::Manager))
 }
 
 fn check_lost(replica: u8, row: &Row, lost: u8) -> Result<(), Fault>
     ensures { result ≡ allowed (lost_refusal replica row.now lost) }
 {
-    refuse_if(lost >= 16, Reason::NoSuchReplica, lost)?;
-    refuse_if(!row.up, Reason::WrongPower, replica)?;
+    refuse_if(lost >= 16, Reason::NoSuchReplica.at(lost, Layer::Manager))?;
+    refuse_if(!row.up, Reason::WrongPower.at(replica, Layer::Manager))?;
     check_party(replica, row, lost)
 }
 
@@ -159,5 +156,5 @@ pub(crate) fn check_start(replica: u8, page: &Page, row: &Row) -> Result<(), Fau
     ensures { result ≡ allowed (start_refusal replica page.now row.now) }
 {
     check_offer(replica, page, row)?;
-    refuse_if(row.up, Reason::WrongPower, replica)
+    refuse_if(row.up, Reason::WrongPower.at(replica, Layer::Manager))
 }

@@ -1,3 +1,4 @@
 pub mod Bits
 pub mod Sets
 pub mod Below
+pub mod Refused

@@ -95,13 +95,11 @@ pub struct Fault {
     pub layer: Layer,
 }
 
-impl Fault {
-    // Refused, where the condition holds.
-    pub fn refuse_if(self, condition: bool) -> Result<(), Fault>
-        ensures { result ≡ allowed (refused_if condition self) }
-    {
-        if condition { Err(self) } else { Ok(()) }
-    }
+// Refused with this fault, where the condition holds.
+pub fn refuse_if(condition: bool, fault: Fault) -> Result<(), Fault>
+    ensures { result ≡ allowed (refused_if condition fault) }
+{
+    if condition { Err(fault) } else { Ok(()) }
 }
 
 // Why a call did not do its work: a refusal, or want of memory, which changes nothing either.

@@ -14,7 +14,7 @@ mod weights;
 
 pub use choice::ChosenRule;
 pub use count::CountRule;
-pub use fault::{Failure, Fault, Layer, Reason};
+pub use fault::{Failure, Fault, Layer, Reason, refuse_if};
 pub use generic::meeting;
 pub use iter::Members;
 pub use replica::Replica;

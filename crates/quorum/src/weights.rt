@@ -7,7 +7,7 @@ ghost use Rattle.quorum.specs.Faults.{refused_by};
 ghost use Rattle.quorum.specs.Members.{weight, listed, majority};
 ghost use Rattle.quorum.specs.Majority.{majority_local, majority_whole, majority_grows, majority_meets};
 
-use super::fault::{Fault, Layer, Reason};
+use super::fault::{Fault, Layer, Reason, refuse_if};
 use super::rule::QuorumRule;
 use super::set::ReplicaSet;
 
@@ -24,9 +24,7 @@ impl WeightRule {
         ensures kept { MatchResult result (λ x. x.weights ≡ weights) (λ e. e ≡ refused_by Rule ZeroWeight) }
         ensures refused { is_err result ≡ any (λ k. nat_eq (slice_index weights k) 0) 16 }
     {
-        Reason::ZeroWeight
-            .by(Layer::Rule)
-            .refuse_if(weights.contains(&0))?;
+        refuse_if(weights.contains(&0), Reason::ZeroWeight.by(Layer::Rule))?;
         Ok(WeightRule { weights })
     }
 

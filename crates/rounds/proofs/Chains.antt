@@ -11,7 +11,8 @@ use Rattle.std.specs.Option.{option_to_list}
 use Rattle.std.specs.Slice.Iter.{iter_rest}
 use Rattle.std.proofs.iter.Yields.{fronts}
 use denote.Ref.{Bor}
-use Rattle.quorum.specs.Below.{any, or_else, first}
+use Rattle.std.specs.Option.{option_or}
+use Rattle.quorum.specs.Below.{any, first}
 use Rattle.rounds.specs.Reports.{present}
 
 -- ---- from the front
@@ -55,18 +56,18 @@ module _ {A : Type 0} where
       YieldsList-from_flatten becomes option_iter_steps (λ y. y.now) option_to_list (λ x j b. let e = opens x j b in option_yields x.now e.0 e.1)
       (YieldsList-from_slice os source) front back done
 
-  or_else_none : (o : Option A) → or_else o None ≡ o
-  or_else_none None = refl
-  or_else_none (Some a) = refl
+  option_or_none : (o : Option A) → option_or o None ≡ o
+  option_or_none None = refl
+  option_or_none (Some a) = refl
 
-  or_else_assoc : (a b c : Option A) → or_else (or_else a b) c ≡ or_else a (or_else b c)
-  or_else_assoc None b c = refl
-  or_else_assoc (Some a) b c = refl
+  option_or_assoc : (a b c : Option A) → option_or (option_or a b) c ≡ option_or a (option_or b c)
+  option_or_assoc None b c = refl
+  option_or_assoc (Some a) b c = refl
 
-  first_front : (g : ℕ → Option A) (n : ℕ) → first g (suc n) ≡ or_else (g 0) (first (λ k. g (suc k)) n)
+  first_front : (g : ℕ → Option A) (n : ℕ) → first g (suc n) ≡ option_or (g 0) (first (λ k. g (suc k)) n)
   unfolding first
-  first_front g zero = sym (or_else_none (g 0))
-  first_front g (suc n) = ap (λ o. or_else o (g (suc n))) (first_front g n) ∙ or_else_assoc (g 0) _ (g (suc n))
+  first_front g zero = sym (option_or_none (g 0))
+  first_front g (suc n) = ap (λ o. option_or o (g (suc n))) (first_front g n) ∙ option_or_assoc (g 0) _ (g (suc n))
 
   first_zero : (g : ℕ → Option A) → first g 0 ≡ None
   unfolding first
@@ -78,15 +79,15 @@ module _ {A : Type 0} where
   any_there p (Some a ∷ os) = ap (λ b. p a || b) (any_there p os) ∙ sym (any_front (λ q. present p (get_or (Some a ∷ os) q None)) (length os))
 
 module _ {A B : Type 0} (offer : A → Option B) (test : B → Bool) where
-  found_more : (o : Option B) (bs : List B) → find test (cons_option o bs) ≡ or_else (find test (option_to_list o)) (find test bs)
+  found_more : (o : Option B) (bs : List B) → find test (cons_option o bs) ≡ option_or (find test (option_to_list o)) (find test bs)
   found_more None bs = refl
-  found_more (Some b) bs = elim (test b) as (λ t. cond t (Some b) (find test bs) ≡ or_else (cond t (Some b) None) (find test bs)) [ true ↦ refl | false ↦ refl ]
+  found_more (Some b) bs = elim (test b) as (λ t. cond t (Some b) (find test bs) ≡ option_or (cond t (Some b) None) (find test bs)) [ true ↦ refl | false ↦ refl ]
 
   -- the first that passes of what is offered, where g says what passes of one
   pub find_there : (g : Option A → Option B) → g None ≡ None → ((a : A) → g (Some a) ≡ find test (option_to_list (offer a))) →
       (os : List (Option A)) → find test (filter_map offer (there os)) ≡ first (λ q. g (get_or os q None)) (length os)
   find_there g none some [] = sym (first_zero _)
   find_there g none some (None ∷ os) =
-      find_there g none some os ∙ ap (λ o. or_else o (first (λ q. g (get_or os q None)) (length os))) (sym none) ∙ sym (first_front (λ q. g (get_or (None ∷ os) q None)) (length os))
+      find_there g none some os ∙ ap (λ o. option_or o (first (λ q. g (get_or os q None)) (length os))) (sym none) ∙ sym (first_front (λ q. g (get_or (None ∷ os) q None)) (length os))
   find_there g none some (Some a ∷ os) =
-      found_more (offer a) (filter_map offer (there os)) ∙ ap₂ or_else (sym (some a)) (find_there g none some os) ∙ sym (first_front (λ q. g (get_or (Some a ∷ os) q None)) (length os))
+      found_more (offer a) (filter_map offer (there os)) ∙ ap₂ option_or (sym (some a)) (find_there g none some os) ∙ sym (first_front (λ q. g (get_or (Some a ∷ os) q None)) (length os))

@@ -1,7 +1,7 @@
 -- An accepted call of a floor is a chain of moves at one of the sixteen replicas. Assumes nothing.
 use Rattle.std.proofs.Common.{◌≡◌, ℕ, zero, suc, ◌<◌, Bool, true, false, cond, not, eqb, ltb, leb, List, [], ◌∷◌, length, get_or, Some, None, Ok, Err, Option, Result, sym, refl, ap, ◌∙◌, subst, inl, inr, arith}
 use Rattle.std.proofs.lemmas.Bool.{ltb-true}
-use Rattle.quorum.specs.Below.{or_else}
+use Rattle.std.specs.Option.{option_or}
 use Rattle.quorum.specs.Laws.{Grows, Meets}
 use Rattle.quorum.specs.declared.fault.Fault.{Fault}
 use Rattle.quorum.specs.declared.fault.Reason.TheVariants.{NoSuchReplica, WrongPower, PostFull}
@@ -23,10 +23,13 @@ use Rattle.stores.specs.declared.view.Head.{Head}
 use Rattle.stores.specs.declared.view.View.{View}
 use Rattle.runs.specs.Findings.{head_under}
 use Rattle.runs.specs.Founding.{row_at}
-use Rattle.runs.specs.World.{World, replica_of, refused_if, unless, message_at, up_test, down_test, loss_test, delivery_test, page_of, row_of, delivered_or_not, asked, full, placed, ruled}
+use Rattle.runs.specs.World.{World, replica_of, unless, message_at, up_test, down_test, loss_test, delivery_test, page_of, row_of, delivered_or_not, asked, full, placed, ruled}
 use Rattle.runs.specs.declared.work.Work.{Work}
 use Rattle.runs.specs.declared.work.Work.TheVariants.{View as Views, Deliver, Loss, Start}
-use Rattle.runs.proofs.Answered.{ok_inj, err_ok, let_through, neither, one_of_sixteen}
+use Rattle.runs.proofs.Answered.{ok_inj, err_ok, let_through}
+use Rattle.quorum.specs.Faults.{refused_if}
+use Rattle.quorum.proofs.Refused.{neither, not_refused, one_of_sixteen}
+use Rattle.runs.specs.World.{floor_refusal}
 
 -- ---- the message that is delivered stands in the post
 got_in : {A : Type 0} (xs : List A) (i : ℕ) (d : A) → i < length xs → In (get_or xs i d) xs
@@ -64,7 +67,7 @@ module _ (f : ℕ → ℕ → Bool) (grows : Grows f) (meets : Meets f) (w : Wor
   moves r = refines f grows meets w.need r
 
   up_below : (r : ℕ) → up_test w.rows r ≡ None → r < 16
-  up_below r e = one_of_sixteen NoSuchReplica r (neither (refused_if (leb 16 r) NoSuchReplica r) (refused_if (not (row_at w.rows r).up) WrongPower r) e).0
+  up_below r e = one_of_sixteen r (floor_refusal NoSuchReplica r) (neither (refused_if (leb 16 r) (floor_refusal NoSuchReplica r)) (refused_if (not (row_at w.rows r).up) (floor_refusal WrongPower r)) e).0
 
   delivery_moves : (r i : ℕ) (o : Option Message) (e : Effect) → message_at w.post i ≡ o →
       unless (delivery_test w.rows r o) (delivered_or_not f w r o) ≡ Ok e → IsChain (Deliver r i) e
@@ -81,15 +84,15 @@ module _ (f : ℕ → ℕ → Bool) (grows : Grows f) (meets : Meets f) (w : Wor
   asked_moves (Deliver r i) e k = delivery_moves r i (message_at w.post i) e refl k
   asked_moves (Loss r q) e k =
       let a = let_through (loss_test w.rows r q) (lost_at f w.need r (page_of f w r) (row_of f w r) q) e k in
-      let b = neither (refused_if (leb 16 r) NoSuchReplica r) (or_else (refused_if (leb 16 q) NoSuchReplica q) (refused_if (not (row_at w.rows r).up) WrongPower r)) a.0 in
-      (one_of_sixteen NoSuchReplica r b.0, (moves r).loss (seen_post w.post) (page_of f w r) (row_of f w r) q e a.1)
+      let b = neither (refused_if (leb 16 r) (floor_refusal NoSuchReplica r)) (option_or (refused_if (leb 16 q) (floor_refusal NoSuchReplica q)) (refused_if (not (row_at w.rows r).up) (floor_refusal WrongPower r))) a.0 in
+      (one_of_sixteen r (floor_refusal NoSuchReplica r) b.0, (moves r).loss (seen_post w.post) (page_of f w r) (row_of f w r) q e a.1)
   asked_moves (Start r) e k =
       let a = let_through (down_test w.rows r) (started_at r (page_of f w r) (row_of f w r)) e k in
-      let b = neither (refused_if (leb 16 r) NoSuchReplica r) (refused_if (row_at w.rows r).up WrongPower r) a.0 in
+      let b = neither (refused_if (leb 16 r) (floor_refusal NoSuchReplica r)) (refused_if (row_at w.rows r).up (floor_refusal WrongPower r)) a.0 in
       let p = page_of f w r in
       let row = row_of f w r in
       let silent = start_ends_nothing r p row e a.1 in (
-        one_of_sixteen NoSuchReplica r b.0,
+        one_of_sixteen r (floor_refusal NoSuchReplica r) b.0,
         subst (λ (s : Option Settlement). Chain f (seen_post w.post) r (node_of p row) (formed_by e.answer.posts) s (node_of e.page e.row))
             (no_settlement None (head_of row.stage) e.answer.ended silent) ((moves r).start (seen_post w.post) p row e a.1),
       )
@@ -97,7 +100,7 @@ module _ (f : ℕ → ℕ → Bool) (grows : Grows f) (meets : Meets f) (w : Wor
   placed_is : (k : Work) (a : Result Effect Fault) (e : Effect) → placed f w k a ≡ Ok e → a ≡ Ok e
   placed_is k (Err fault) e i = absurd (err_ok i)
   placed_is k (Ok x) e i =
-      (let_through (or_else (refused_if (full f w k) PostFull (replica_of k)) (cond (eqb w.places 0) (Some (no_place (replica_of k))) None)) (Ok x) e i).1
+      (let_through (option_or (refused_if (full f w k) (floor_refusal PostFull (replica_of k))) (cond (eqb w.places 0) (Some (no_place (replica_of k))) None)) (Ok x) e i).1
 
   -- what an accepted call does
   pub ruled_moves : (k : Work) (e : Effect) → ruled f w k ≡ Ok e → IsChain k e

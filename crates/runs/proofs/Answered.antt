@@ -1,12 +1,12 @@
 -- Results and refusals: what an accepted call says of the tests before it. Assumes nothing.
 use Rattle.std.proofs.Common.{◌≡◌, ℕ, ◌<◌, Bool, true, false, leb, Some, None, Ok, Err, Option, Result, sym, refl, arith}
 use Rattle.std.proofs.lemmas.Bool.{leb-false}
-use Rattle.quorum.specs.Below.{or_else}
+use Rattle.std.specs.Option.{option_or}
 use Rattle.quorum.specs.declared.fault.Fault.{Fault}
 use Rattle.quorum.specs.declared.fault.Reason.{Reason}
 use Rattle.manager.specs.Effects.{Effect}
 use Rattle.safety.proofs.Marks.{none_some}
-use Rattle.runs.specs.World.{refused_if, unless}
+use Rattle.runs.specs.World.{unless}
 
 pub ok_inj : {A B : Type 0} {x y : A} → ◌≡◌ {A = Result A B} (Ok x) (Ok y) → x ≡ y
 ok_inj e = cc
@@ -18,13 +18,3 @@ pub let_through : (o : Option Fault) (a : Result Effect Fault) (e : Effect) → 
 let_through None a e i = (refl, i)
 let_through (Some fault) a e i = absurd (err_ok i)
 
-pub neither : {A : Type 0} (a b : Option A) → or_else a b ≡ None → (a ≡ None) × (b ≡ None)
-neither None b e = (refl, e)
-neither (Some x) b e = absurd (none_some (sym e))
-
-pub not_refused : (b : Bool) (why : Reason) (r : ℕ) → refused_if b why r ≡ None → b ≡ false
-not_refused true why r e = absurd (none_some (sym e))
-not_refused false why r e = refl
-
-pub one_of_sixteen : (why : Reason) (r : ℕ) → refused_if (leb 16 r) why r ≡ None → r < 16
-one_of_sixteen why r e = leb-false 16 r (not_refused (leb 16 r) why r e)

@@ -9,16 +9,18 @@ use Rattle.quorum.specs.Members.{has}
 use Rattle.quorum.specs.declared.fault.Fault.{Fault}
 use Rattle.quorum.specs.declared.fault.Reason.{Reason}
 use Rattle.quorum.specs.declared.fault.Reason.TheVariants.{BadFounding, NotFresh}
-use Rattle.manager.specs.Calls.{allowed}
 use Rattle.manager.specs.declared.need.Need.{Need}
 use Rattle.safety.proofs.Marks.{none_some}
 use Rattle.stores.specs.Kept.{page_at}
 use Rattle.stores.specs.declared.page.Page.{Page}
 use Rattle.stores.specs.declared.view.View.{View}
-use Rattle.runs.specs.Founding.{is_fresh, nameless_if, founding_refusal, Founding}
+use Rattle.runs.specs.Founding.{is_fresh, founding_refusal, Founding}
 use Rattle.runs.specs.Runs.{Founded}
 use Rattle.runs.specs.World.{World}
-use Rattle.runs.proofs.Answered.{err_ok, neither}
+use Rattle.runs.proofs.Answered.{err_ok}
+use Rattle.quorum.specs.Faults.{refused_if}
+use Rattle.quorum.proofs.Refused.{neither, not_refused, one_of_sixteen}
+use Rattle.runs.specs.Founding.{nameless}
 
 -- a set that is not empty has a member
 pub a_member : (s : ℕ) → s < 2 ^ 16 → eqb s 0 ≡ false → (q : ℕ) × (q < 16) × (has s q ≡ true)
@@ -28,21 +30,13 @@ a_member s l e =
     absurd (both_ways (eqb s 0) e ((no_members s l).1 (λ k. ⊎_elim (λ h. any_none (has s) 16 a k h) (λ h. has_high s 16 k l h) (cases_lt k 16)))))
     (cases_Bool (any (has s) 16))
 
-let_pass : (b : Bool) (why : Reason) → nameless_if b why ≡ None → b ≡ false
-let_pass true why e = absurd (none_some (sym e))
-let_pass false why e = refl
-
 not_empty : (first : View) (pages : List Page) (places : ℕ) → founding_refusal first pages places ≡ None → eqb first.set.0 0 ≡ false
 not_empty first pages places e =
-    let a = neither (nameless_if (eqb first.set.0 0 || ltb 1000000000 first.number.0) BadFounding)
-    (nameless_if (ltb places 16 || any (λ r. not (is_fresh (page_at pages r))) 16) NotFresh) e in
-    (or_parts (eqb first.set.0 0) (ltb 1000000000 first.number.0) (let_pass _ BadFounding a.0)).0
+    let a = neither (refused_if (eqb first.set.0 0 || ltb 1000000000 first.number.0) (nameless BadFounding))
+    (refused_if (ltb places 16 || any (λ r. not (is_fresh (page_at pages r))) 16) (nameless NotFresh)) e in
+    (or_parts (eqb first.set.0 0) (ltb 1000000000 first.number.0) (not_refused _ (nameless BadFounding) a.0)).0
 
 -- what was let through was not refused
-pub was_allowed : (o : Option Fault) (u : Unit {0}) → Ok u ≡ allowed o → o ≡ None
-was_allowed None u e = refl
-was_allowed (Some fault) u e = absurd (err_ok (sym e))
-
 -- before it the store had these pages and places
 pub founded : (first : View) (need : Need) (pages : List Page) (places : ℕ) (w : World) → first.set.0 < 2 ^ 16 → founding_refusal first pages places ≡ None →
     Founding first need w.pages w.rows w.need w.post → length w.pages ≡ 16 → length w.rows ≡ 16 → Founded first w

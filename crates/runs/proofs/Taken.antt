@@ -26,14 +26,17 @@ use Rattle.runs.specs.Findings.{Asks, head_under, Accepted, FormsIn, SettlesIn}
 use Rattle.runs.specs.Founding.{row_at}
 use Rattle.runs.specs.Runs.{Taken}
 use Rattle.runs.specs.Steps.{Step, stopped, Halted}
-use Rattle.runs.specs.World.{World, replica_of, refused_if, up_test, page_of, row_of, ruled, Changed, Same, Broken, listed}
+use Rattle.runs.specs.World.{World, replica_of, up_test, page_of, row_of, ruled, Changed, Same, Broken, listed}
 use Rattle.runs.specs.declared.work.Call.{Call}
 use Rattle.runs.specs.declared.work.Call.TheVariants.{Whole, Cut, Stop}
 use Rattle.runs.specs.declared.work.Work.{Work}
 use Rattle.runs.proofs.Accepted.{ruled_moves}
-use Rattle.runs.proofs.Answered.{ok_inj, err_ok, let_through, neither, one_of_sixteen}
+use Rattle.runs.proofs.Answered.{ok_inj, err_ok, let_through}
 use Rattle.runs.proofs.Posts.{posted_by, report_posted}
 use Rattle.runs.proofs.Seen.{seen_at, world_of, Sixteen, both_here, both_others, row_here, row_others, seen_same, long_both, long_row}
+use Rattle.quorum.specs.Faults.{refused_if}
+use Rattle.quorum.proofs.Refused.{neither, not_refused, one_of_sixteen}
+use Rattle.runs.specs.World.{floor_refusal}
 
 abbrev taken : Call → Result Answer Failure → World → Taken
 taken call answer world = record { call = call; answer = answer; world = world }
@@ -170,7 +173,7 @@ module _ (f : ℕ → ℕ → Bool) (w : World) where
     stop_below : (r : ℕ) (e : Effect) → stopped f w r ≡ Ok e → r < 16
     stop_below r e i =
         let a = let_through (up_test w.rows r) (stopped_at r (page_of f w r) (row_of f w r)) e i in
-        one_of_sixteen NoSuchReplica r (neither (refused_if (leb 16 r) NoSuchReplica r) (refused_if (not (row_at w.rows r).up) WrongPower r) a.0).0
+        one_of_sixteen r (floor_refusal NoSuchReplica r) (neither (refused_if (leb 16 r) (floor_refusal NoSuchReplica r)) (refused_if (not (row_at w.rows r).up) (floor_refusal WrongPower r)) a.0).0
 
     step_taken : (grows : Grows f) (meets : Meets f) (call : Call) (answer : Result Answer Failure) (v : World) → Step f w call answer v → Called (taken call answer v)
     step_taken grows meets (Whole k) (Ok a) v (e, rules, is, c) = carried_out grows meets (taken (Whole k) (Ok a) v) k e a refl (λ work i. i) refl rules c

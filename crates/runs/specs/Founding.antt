@@ -1,6 +1,7 @@
 -- A new floor, and its founding. Assumes nothing.
 use Rattle.std.specs.Prelude.{◌≡◌, ℕ, ◌<◌, Bool, true, false, cond, not, ◌&&◌, ◌||◌, List, [], is_some, Some, None, Option, ◌==◌, nat_lt, slice_index_or}
-use Rattle.quorum.specs.Below.{any, or_else}
+use Rattle.std.specs.Option.{option_or}
+use Rattle.quorum.specs.Below.{any}
 use Rattle.quorum.specs.Members.{has}
 use Rattle.quorum.specs.declared.fault.Fault.{Fault}
 use Rattle.quorum.specs.declared.fault.Layer.TheVariants.{Floor}
@@ -17,6 +18,7 @@ use Rattle.stores.specs.declared.page.Mode.{Mode}
 use Rattle.stores.specs.declared.page.Mode.TheVariants.{Waiting, Joining, Normal, Reconfiguration}
 use Rattle.stores.specs.declared.page.Page.{Page}
 use Rattle.stores.specs.declared.view.View.{View}
+use Rattle.quorum.specs.Faults.{refused_by, refused_if}
 
 -- the row of replica r
 abbrev pub row_at : List Row → ℕ → Row
@@ -34,16 +36,13 @@ is_fresh p = is_waiting p.mode && (p.top.0 == 0 && (not (is_some p.mark) && (not
 
 -- a refusal of the floor that names no replica
 abbrev pub nameless : Reason → Fault
-nameless reason = record { reason = reason; replica = None; layer = Floor }
-
-abbrev pub nameless_if : Bool → Reason → Option Fault
-nameless_if b reason = cond b (Some (nameless reason)) None
+nameless reason = refused_by Floor reason
 
 -- the set is empty or the number above the highest; fewer than sixteen places, or a page that is not fresh
 abbrev pub founding_refusal : View → List Page → ℕ → Option Fault
 founding_refusal v pages places =
-    or_else (nameless_if (v.set.0 == 0 || nat_lt 1000000000 v.number.0) BadFounding)
-    (nameless_if (nat_lt places 16 || any (λ r. not (is_fresh (page_at pages r))) 16) NotFresh)
+    option_or (refused_if (v.set.0 == 0 || nat_lt 1000000000 v.number.0) (nameless BadFounding))
+    (refused_if (nat_lt places 16 || any (λ r. not (is_fresh (page_at pages r))) 16) (nameless NotFresh))
 
 -- a member's page: normal, with the first view and its number as the mark
 abbrev pub founding_page : View → Page

@@ -1,6 +1,6 @@
 -- The floor's calls: what each does to pages, rows and post, or why it is refused. Assumes nothing.
 use Rattle.std.specs.Prelude.{◌≡◌, ℕ, ◌<◌, Bool, true, false, cond, not, ◌⊎◌, List, [], ◌∷◌, ◌++◌, length, Some, None, Ok, Err, Option, Result, ◌==◌, nat_le, nat_lt, slice_index_or, slice_set}
-use Rattle.quorum.specs.Below.{or_else}
+use Rattle.std.specs.Option.{option_or}
 use Rattle.quorum.specs.declared.fault.Failure.{Failure}
 use Rattle.quorum.specs.declared.fault.Failure.TheVariants.{Refused, NoMemory}
 use Rattle.quorum.specs.declared.fault.Fault.{Fault}
@@ -22,6 +22,7 @@ use Rattle.stores.specs.declared.page.Page.{Page}
 use Rattle.runs.specs.Founding.{row_at}
 use Rattle.runs.specs.declared.work.Work.{Work}
 use Rattle.runs.specs.declared.work.Work.TheVariants.{View, Deliver, Loss, Start}
+use Rattle.quorum.specs.Faults.{refused_at, refused_if}
 
 -- all that a call sees and changes
 pub record World : Type 0 where
@@ -40,10 +41,7 @@ replica_of (Start r) = r
 
 -- ---- refusals of the floor
 abbrev pub floor_refusal : Reason → ℕ → Fault
-floor_refusal reason r = record { reason = reason; replica = Some r; layer = Floor }
-
-abbrev pub refused_if : Bool → Reason → ℕ → Option Fault
-refused_if b reason r = cond b (Some (floor_refusal reason r)) None
+floor_refusal reason r = refused_at Floor reason r
 
 -- refused, or what comes after
 abbrev pub unless : Option Fault → Result Effect Fault → Result Effect Fault
@@ -56,19 +54,19 @@ message_at post i = cond (nat_lt i (length post)) (Some (slice_index_or post i (
 
 -- a replica above 15; one that is down, or at a start up
 abbrev pub up_test : List Row → ℕ → Option Fault
-up_test rows r = or_else (refused_if (nat_le 16 r) NoSuchReplica r) (refused_if (not (row_at rows r).up) WrongPower r)
+up_test rows r = option_or (refused_if (nat_le 16 r) (floor_refusal NoSuchReplica r)) (refused_if (not (row_at rows r).up) (floor_refusal WrongPower r))
 
 abbrev pub down_test : List Row → ℕ → Option Fault
-down_test rows r = or_else (refused_if (nat_le 16 r) NoSuchReplica r) (refused_if (row_at rows r).up WrongPower r)
+down_test rows r = option_or (refused_if (nat_le 16 r) (floor_refusal NoSuchReplica r)) (refused_if (row_at rows r).up (floor_refusal WrongPower r))
 
 -- of a loss also the lost one above 15
 abbrev pub loss_test : List Row → ℕ → ℕ → Option Fault
-loss_test rows r q = or_else (refused_if (nat_le 16 r) NoSuchReplica r) (or_else (refused_if (nat_le 16 q) NoSuchReplica q) (refused_if (not (row_at rows r).up) WrongPower r))
+loss_test rows r q = option_or (refused_if (nat_le 16 r) (floor_refusal NoSuchReplica r)) (option_or (refused_if (nat_le 16 q) (floor_refusal NoSuchReplica q)) (refused_if (not (row_at rows r).up) (floor_refusal WrongPower r)))
 
 -- a message against the rules comes first, an index past the post after the replica's refusals
 abbrev pub delivery_test : List Row → ℕ → Option Message → Option Fault
-delivery_test rows r None = or_else (up_test rows r) (Some (floor_refusal NoSuchMessage r))
-delivery_test rows r (Some m) = or_else (message_refusal r m) (up_test rows r)
+delivery_test rows r None = option_or (up_test rows r) (Some (floor_refusal NoSuchMessage r))
+delivery_test rows r (Some m) = option_or (message_refusal r m) (up_test rows r)
 
 -- ---- what a call does, or why it is refused: the floor's refusals and the manager's
 module _ (f : ℕ → ℕ → Bool) (w : World) where
@@ -98,7 +96,7 @@ module _ (f : ℕ → ℕ → Bool) (w : World) where
   -- the post's room and the store's place are asked for last
   abbrev pub placed : Work → Result Effect Fault → Result Effect Fault
   placed k (Err fault) = Err fault
-  placed k (Ok e) = unless (or_else (refused_if (full k) PostFull (replica_of k)) (cond (w.places == 0) (Some (no_place (replica_of k))) None)) (Ok e)
+  placed k (Ok e) = unless (option_or (refused_if (full k) (floor_refusal PostFull (replica_of k))) (cond (w.places == 0) (Some (no_place (replica_of k))) None)) (Ok e)
 
   unfoldable pub ruled : Work → Result Effect Fault
   ruled k = placed k (asked k)

@@ -1,5 +1,5 @@
 -- Lists of writes and cuts, and what is read after them. Assumes nothing.
-use Rattle.std.specs.Prelude.{◌≡◌, ℕ, zero, suc, ◌<◌, ◌≤◌, Bool, true, false, if◌then◌else◌, not, ◌&&◌, ◌⊎◌, List, length, Some, None, Option, Result, ◌==◌, nat_lt, slice_index_or}
+use Rattle.std.specs.Prelude.{◌≡◌, ℕ, zero, suc, ◌<◌, ◌≤◌, Bool, true, false, if◌then◌else◌, not, ◌&&◌, ◌⊎◌, List, length, Some, None, Option, Result, ◌==◌, slice_index_or}
 use Rattle.quorum.specs.declared.fault.Fault.{Fault}
 use Rattle.stores.specs.declared.page.Page.{Page}
 use Rattle.stores.specs.declared.writing.Writing.{Writing}
