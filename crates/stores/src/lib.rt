@@ -1,6 +1,7 @@
 // Views and pages, the rules that pages keep, and the stores that keep pages.
 #![tactic(auto)]
 
+mod equal;
 mod held;
 mod kept_page;
 mod page;
@@ -10,6 +11,7 @@ mod store;
 mod view;
 mod writing;
 
+pub use equal::alike_where_equal;
 pub use held::HeldPages;
 pub use kept_page::KeptPage;
 pub use page::{Mode, Page};
