@@ -1,16 +1,19 @@
 -- The reports in turn, as chains of iterators give them: the chain's answer is that of the replicas below their number. Assumes nothing.
-use Rattle.std.proofs.Common.{◌≡◌, ℕ, zero, suc, Bool, true, false, cond, ◌||◌, List, [], ◌∷◌, length, get_or, Some, None, Option, sym, refl, ap, ◌∙◌, ap₂, subst, IsTrue, MatchBool}
+use Rattle.std.proofs.Common.{◌≡◌, ℕ, zero, suc, Bool, true, false, cond, ◌||◌, List, [], ◌∷◌, length, get_or, Some, None, Option, sym, refl, ap, ◌∙◌, ap₂, subst, IsTrue, MatchBool, MatchOption}
 use Rattle.std.proofs.lemmas.Iterator.{YieldsList, YieldsList-from_slice}
 use Rattle.std.proofs.lemmas.Iterator.Adapters.{YieldsList-from_flatten}
-use Rattle.std.proofs.lemmas.Iterator.Consumers.{YieldsList-from_shown}
+use Rattle.std.proofs.lemmas.Iterator.Consumers.{YieldsList-from_shown, reduce_from_yields_List}
 use Rattle.std.proofs.lemmas.Bool.{false≢true}
 use Rattle.std.proofs.Math.Bool.{or_assoc, or-false}
 use Rattle.std.specs.Iterator.Adapters.{option_iter_item, option_iter_done, option_iter_steps, flatten_source, flatten_front, flatten_back, flatten_done, flatten_steps}
-use Rattle.std.specs.List.{flat_map, list_any, find, filter_map, cons_option}
+use Rattle.std.specs.List.{flat_map, list_any, find, filter_map, cons_option, FoldsTo, reduce}
 use Rattle.std.specs.Option.{option_to_list}
 use Rattle.std.specs.Slice.Iter.{iter_rest}
 use Rattle.std.proofs.iter.Yields.{fronts}
 use denote.Ref.{Bor}
+use denote.Param.Members.{Mut}
+use Rattle.std.specs.Fn.{Called}
+use Rattle.std.specs.Iterator.{FoldTurn, ReducesItems, Drains}
 use Rattle.quorum.specs.Below.{any, or_else, first}
 use Rattle.rounds.specs.Reports.{present}
 
@@ -90,3 +93,18 @@ module _ {A B : Type 0} (offer : A → Option B) (test : B → Bool) where
       find_there g none some os ∙ ap (λ o. or_else o (first (λ q. g (get_or os q None)) (length os))) (sym none) ∙ sym (first_front (λ q. g (get_or (None ∷ os) q None)) (length os))
   find_there g none some (Some a ∷ os) =
       found_more (offer a) (filter_map offer (there os)) ∙ ap₂ or_else (sym (some a)) (find_there g none some os) ∙ sym (first_front (λ q. g (get_or (Some a ∷ os) q None)) (length os))
+
+module _ {A F : Type 0} (g : Mut F (A × (A × Unit {0})) A) (pick : A → A → A) (f : F) (step : (a x b : A) (q : F) → Called g f (a, (x, tt)) b q → (q ≡ f) × (b ≡ pick a x)) where
+  turns : (xs : List A) (x y : A) (q h : F) → q ≡ f → FoldsTo (FoldTurn g) (q, x) xs (h, y) → FoldsTo (λ a z c. c ≡ pick a z) x xs y
+  turns [] x y q h e t = ap (λ p. p.1) t
+  turns (z ∷ xs) x y q h e t =
+      let c = step x z t.0.1 t.0.0 (subst (λ k. Called g k (x, (z, tt)) t.0.1 t.0.0) e t.1) in
+      (t.0.1, c.1, turns xs t.0.1 y t.0.0 h c.0 t.2)
+
+  reduced_by : {S : Type 0} (steps : S → Option A → S → Type 0) (s : S) (r : Option A) → ReducesItems steps g s f r → MatchOption r (Drains steps s []) (λ y. (x : A) × (xs : List A) × Drains steps s (x ∷ xs) × FoldsTo (λ a z c. c ≡ pick a z) x xs y)
+  reduced_by steps s None t = t
+  reduced_by steps s (Some y) t = (t.0, t.1, t.3, turns t.1 t.0 y f t.2 refl t.4)
+
+  -- `reduce`, of a closure that picks
+  pub reduce_yields : {S : Type 0} {steps : S → Option A → S → Type 0} {all : List A} (s : S) (r : Option A) → ReducesItems steps g s f r → YieldsList steps (λ x. x) s all → r ≡ reduce pick all
+  reduce_yields {steps = steps} s r t e = reduce_from_yields_List pick s r (reduced_by steps s r t) e

@@ -35,9 +35,3 @@ pub record Leading (rs : List (Option Report)) (n : ℕ) (v : View) : Type 0 whe
 abbrev pub Highest : List (Option Report) → ℕ → Option View → Type 0
 Highest rs n None = (q : ℕ) → q < n → component_of (reported rs q) ≡ None
 Highest rs n (Some v) = Leading rs n v
-
--- the higher of two, the first where neither is
-abbrev pub higher : Option View → Option View → Option View
-higher o None = o
-higher None (Some w) = Some w
-higher (Some v) (Some w) = cond (nat_lt v.number.0 w.number.0) (Some w) (Some v)
