@@ -3,8 +3,6 @@ use Rattle.std.specs.Prelude.{ℕ, Bool, true, false, not, ◌&&◌, ◌||◌, L
 use Rattle.stores.specs.declared.view.Recorded.{Recorded}
 use Rattle.stores.specs.declared.view.View.{View}
 use Rattle.stores.specs.Views.{same_view, same_recorded}
-use Rattle.rounds.specs.declared.report.Claim.{Claim}
-use Rattle.rounds.specs.declared.report.Claim.TheVariants.{Holds, Clear, Level}
 use Rattle.rounds.specs.declared.report.Report.{Report}
 
 -- what replica q reported; `rs` are the reports by replica
@@ -43,8 +41,3 @@ clear v r = (at_view v r && not (present (λ _. true) r.recorded)) || not (marke
 -- its component view is v, or it is clear
 abbrev pub level : View → Report → Bool
 level v r = at_view v r || clear v r
-
-abbrev pub says : View → Claim → Report → Bool
-says v (Holds s) = holds v s
-says v Clear = clear v
-says v Level = level v

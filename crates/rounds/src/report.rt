@@ -1,6 +1,6 @@
 // What a replica reports to a round.
 ghost use Rattle.std.specs.Prelude.{◌≡◌, ◌+◌};
-ghost use Rattle.rounds.specs.Reports.{at_view, holds, clear, level, marked_above, says};
+ghost use Rattle.rounds.specs.Reports.{at_view, holds, clear, level, marked_above};
 
 use stores::{Mode, Number, Recorded, View};
 
@@ -13,25 +13,7 @@ pub struct Report {
     pub recorded: Option<Recorded>,
 }
 
-// What a report may say of a view.
-#[derive(Clone, Copy)]
-pub(crate) enum Claim {
-    Holds(Recorded),
-    Clear,
-    Level,
-}
-
 impl Report {
-    pub(crate) fn says(&self, view: View, claim: Claim) -> bool
-        ensures { result ≡ says view claim self.now }
-    {
-        match claim {
-            Claim::Holds(recorded) => self.holds(view, recorded),
-            Claim::Clear => self.is_clear(view),
-            Claim::Level => self.is_level(view),
-        }
-    }
-
     // Its component view is this one.
     fn is_at(&self, view: View) -> bool
         ensures { result ≡ at_view view self.now }
@@ -40,21 +22,21 @@ impl Report {
     }
 
     // At the view, with this recorded: number, set and stamp alike.
-    fn holds(&self, view: View, recorded: Recorded) -> bool
+    pub(crate) fn holds(&self, view: View, recorded: Recorded) -> bool
         ensures { result ≡ holds view recorded self.now }
     {
         self.is_at(view) && self.recorded == Some(recorded)
     }
 
     // At the view with nothing recorded, or with a mark that is absent or at most the view's number.
-    fn is_clear(&self, view: View) -> bool
+    pub(crate) fn is_clear(&self, view: View) -> bool
         ensures { result ≡ clear view self.now }
     {
         self.is_at(view) && self.recorded.is_none() || !self.is_marked_above(view.number)
     }
 
     // At the view, or clear of it.
-    fn is_level(&self, view: View) -> bool
+    pub(crate) fn is_level(&self, view: View) -> bool
         ensures { result ≡ level view self.now }
     {
         self.is_at(view) || self.is_clear(view)
