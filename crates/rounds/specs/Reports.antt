@@ -1,9 +1,14 @@
 -- What was reported, and what a report says of a view. Assumes nothing.
 use Rattle.std.specs.Prelude.{ℕ, Bool, true, false, not, ◌&&◌, ◌||◌, List, Some, None, Option, nat_lt, slice_index_or}
+use Rattle.stores.specs.declared.page.Page.{Page}
 use Rattle.stores.specs.declared.view.Recorded.{Recorded}
 use Rattle.stores.specs.declared.view.View.{View}
 use Rattle.stores.specs.Views.{same_view, same_recorded}
 use Rattle.rounds.specs.declared.report.Report.{Report}
+
+-- what a page tells, but for the top stamp
+abbrev pub report_of : Page → Report
+report_of p = record { mode = p.mode; mark = p.mark; component = p.component; recorded = p.recorded }
 
 -- what replica q reported; `rs` are the reports by replica
 abbrev pub reported : List (Option Report) → ℕ → Option Report

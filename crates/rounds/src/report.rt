@@ -1,8 +1,8 @@
 // What a replica reports to a round.
 ghost use Rattle.std.specs.Prelude.{◌≡◌, ◌+◌};
-ghost use Rattle.rounds.specs.Reports.{at_view, holds, clear, level, marked_above};
+ghost use Rattle.rounds.specs.Reports.{report_of, at_view, holds, clear, level, marked_above};
 
-use stores::{Mode, Number, Recorded, View};
+use stores::{Mode, Number, Page, Recorded, View};
 
 // The replica's page, but for the top stamp. An absent view or mark is `None`, never number 0.
 #[derive(Clone, Copy, PartialEq, Eq, Debug)]
@@ -11,6 +11,20 @@ pub struct Report {
     pub mark: Option<Number>,
     pub component: Option<View>,
     pub recorded: Option<Recorded>,
+}
+
+// What a replica reports of its page.
+impl From<&Page> for Report {
+    ghost from_gives = { λ p r. r ≡ report_of p.now };
+
+    fn from(page: &Page) -> Report {
+        Report {
+            mode: page.mode,
+            mark: page.mark,
+            component: page.component,
+            recorded: page.recorded,
+        }
+    }
 }
 
 impl Report {
