@@ -63,10 +63,10 @@ impl Report {
         self.mark.is_some_and(|mark| number < mark)
     }
 
-    // Its mark exceeds the number after this one. Any number may be reported, so the sum has room of its own.
+    // Its mark exceeds the number after this one. Any number may be reported, so the sum saturates: no mark is above the largest.
     pub(crate) fn is_marked_past(&self, number: Number) -> bool
         ensures { result ≡ marked_above (number.0 + 1) self.now }
     {
-        self.mark.is_some_and(|mark| u64::from(number.0) + 1 < u64::from(mark.0))
+        self.mark.is_some_and(|mark| number.0.saturating_add(1) < mark.0)
     }
 }
