@@ -1,5 +1,5 @@
 -- What an example shows. Assumes nothing.
-use Rattle.std.specs.Prelude.{ℕ, Bool, true, false, if◌then◌else◌, ◌&&◌, List, [], ◌∷◌, map, replicate, is_some, Some, None, Option, ◌==◌}
+use Rattle.std.specs.Prelude.{ℕ, Bool, true, false, if◌then◌else◌, ◌&&◌, List, ◌∷◌, map, replicate, is_some, Some, None, Option, ◌==◌}
 use Rattle.std.specs.Bool.{beq}
 use Rattle.std.specs.List.{range_with_len}
 use Rattle.quorum.specs.Members.{has, one, listed, majority}
@@ -56,7 +56,3 @@ abbrev pub shows : Example → Bool
 shows (Count p s b) = beq (majority one p.0 s.0) b
 shows (Weight p s b) = beq (majority (listed heavy) p.0 s.0) b
 shows (Ends e o w) = outcome_number (end_of e).0 == outcome_number o && settles (end_of e).1 w
-
-abbrev pub every : {A : Type 0} → (A → Bool) → List A → Bool
-every p [] = true
-every p (x ∷ xs) = p x && every p xs
