@@ -12,10 +12,6 @@ use Rattle.rounds.specs.Reports.{reported, recorded_of, present, holds, clear, l
 abbrev pub member_that : (Report → Bool) → List (Option Report) → View → ℕ → Bool
 member_that p rs v q = has v.set.0 q && present p (reported rs q)
 
--- what is answered at a report is what p is of it
-abbrev pub Tells : (Report → Bool → Type 0) → (Report → Bool) → Type 0
-Tells Answers p = (r : Report) (b : Bool) → Answers r b → b ≡ p r
-
 abbrev pub members_that : (Report → Bool) → List (Option Report) → View → ℕ
 members_that p rs v = select (member_that p rs v) 16
 

@@ -1,8 +1,7 @@
 // Members of a view by what they reported.
 ghost use Rattle.std.specs.Prelude.{◌≡◌, ◌+◌, Bool};
-ghost use Rattle.std.specs.Fn.{FnReturnsAt};
 ghost use Rattle.rounds.specs.declared.report.Report.{Report};
-ghost use Rattle.rounds.specs.Members.{Tells, members_that, holders, clear_members, level_members, any_mark_above, backed};
+ghost use Rattle.rounds.specs.Members.{members_that, holders, clear_members, level_members, any_mark_above, backed};
 
 use super::report::Report;
 use quorum::{QuorumRule, ReplicaSet};
@@ -15,7 +14,7 @@ fn members_that<F: Fn(&Report) -> bool>(
     view: View,
 ) -> ReplicaSet
     requires { F.IsAlwaysCallable says }
-    ensures { (p : Report → Bool) → Tells (FnReturnsAt F.Fn says) p → result.0 ≡ members_that p reports.now view }
+    ensures { (p : Report → Bool) → ((r : _) (b : Bool) → F.post says r b → b ≡ p r.now) → result.0 ≡ members_that p reports.now view }
 {
     let mut found = ReplicaSet::EMPTY;
     for (replica, report) in reports.iter().enumerate() {

@@ -67,6 +67,7 @@ impl Report {
     pub(crate) fn is_marked_past(&self, number: Number) -> bool
         ensures { result ≡ marked_above (number.0 + 1) self.now }
     {
-        self.mark.is_some_and(|mark| number.0.saturating_add(1) < mark.0)
+        self.mark
+            .is_some_and(|mark| number.0.saturating_add(1) < mark.0)
     }
 }

@@ -6,4 +6,3 @@ use Rattle.starred.proofs.table.heavy_carries.Goals as goal
 pub returns-in_default : goal.returns-in_default
 unfolding any
 returns-in_default c = absurd (true≢false c.in_default.ensures.refused)
-
