@@ -1,4 +1,4 @@
--- The reports in turn, as chains of iterators give them: the chain's answer is that of the replicas below their number. Assumes nothing.
+-- The reports in turn, as a chain over them gives them: what `any`, `find` and `reduce` answer, said by replica. Assumes nothing.
 use Rattle.std.proofs.Common.{◌≡◌, ℕ, zero, suc, Bool, true, false, cond, ◌||◌, List, [], ◌∷◌, length, get_or, Some, None, Option, sym, refl, ap, ◌∙◌, ap₂, subst, IsTrue, MatchBool, MatchOption}
 use Rattle.std.proofs.lemmas.Iterator.{YieldsList, YieldsList-from_slice}
 use Rattle.std.proofs.lemmas.Iterator.Adapters.{YieldsList-from_flatten}
@@ -17,7 +17,7 @@ use Rattle.std.specs.Iterator.{FoldTurn, ReducesItems, Drains}
 use Rattle.quorum.specs.Below.{any, or_else, first}
 use Rattle.rounds.specs.Reports.{present}
 
--- ---- from the front
+-- ---- `any` and `first` from the lowest replica on, as a chain goes
 any_front : (f : ℕ → Bool) (n : ℕ) → any f (suc n) ≡ (f 0 || any (λ k. f (suc k)) n)
 unfolding any
 any_front f zero = sym (or-false (f 0))
@@ -28,6 +28,23 @@ unfolding any
 any_zero f = refl
 
 module _ {A : Type 0} where
+  or_else_none : (o : Option A) → or_else o None ≡ o
+  or_else_none None = refl
+  or_else_none (Some a) = refl
+
+  or_else_assoc : (a b c : Option A) → or_else (or_else a b) c ≡ or_else a (or_else b c)
+  or_else_assoc None b c = refl
+  or_else_assoc (Some a) b c = refl
+
+  first_front : (g : ℕ → Option A) (n : ℕ) → first g (suc n) ≡ or_else (g 0) (first (λ k. g (suc k)) n)
+  unfolding first
+  first_front g zero = sym (or_else_none (g 0))
+  first_front g (suc n) = ap (λ o. or_else o (g (suc n))) (first_front g n) ∙ or_else_assoc (g 0) _ (g (suc n))
+
+  first_zero : (g : ℕ → Option A) → first g 0 ≡ None
+  unfolding first
+  first_zero g = refl
+
   -- ---- the chain `iter().flatten()`
   -- what is left of an option that is gone through
   abbrev left : Bool → Option A → List A
@@ -48,33 +65,18 @@ module _ {A : Type 0} where
       (YieldsList-from_shown option_iter_steps (λ y. y.now) (λ u. left (option_iter_done u) (option_iter_item u)) (λ u t m. left_none _ _ m.1)
       (λ u x t m. left_some _ _ _ _ x m.0 m.1) s)
 
-  -- those that are there
+  -- the reports that are there
   abbrev pub there : List (Option A) → List A
   there os = flat_map option_to_list os
 
+  -- the chain gives them
   pub flatten_yields : {s : _} (becomes : Bor (Option A) → _ → Type 0) (os : List (Option A)) → ((x : Bor (Option A)) (j : _) → becomes x j → (option_iter_item j ≡ x.now) × (option_iter_done j ≡ false)) →
       iter_rest (flatten_source s) ≡ os → flatten_front s ≡ None → flatten_back s ≡ None → flatten_done s ≡ false → YieldsList (flatten_steps fronts becomes option_iter_steps) (λ y. y.now) s (there os)
   flatten_yields becomes os opens source front back done =
       YieldsList-from_flatten becomes option_iter_steps (λ y. y.now) option_to_list (λ x j b. let e = opens x j b in option_yields x.now e.0 e.1)
       (YieldsList-from_slice os source) front back done
 
-  or_else_none : (o : Option A) → or_else o None ≡ o
-  or_else_none None = refl
-  or_else_none (Some a) = refl
-
-  or_else_assoc : (a b c : Option A) → or_else (or_else a b) c ≡ or_else a (or_else b c)
-  or_else_assoc None b c = refl
-  or_else_assoc (Some a) b c = refl
-
-  first_front : (g : ℕ → Option A) (n : ℕ) → first g (suc n) ≡ or_else (g 0) (first (λ k. g (suc k)) n)
-  unfolding first
-  first_front g zero = sym (or_else_none (g 0))
-  first_front g (suc n) = ap (λ o. or_else o (g (suc n))) (first_front g n) ∙ or_else_assoc (g 0) _ (g (suc n))
-
-  first_zero : (g : ℕ → Option A) → first g 0 ≡ None
-  unfolding first
-  first_zero g = refl
-
+  -- ---- what ends the chain
   pub any_there : (p : A → Bool) (os : List (Option A)) → list_any p (there os) ≡ any (λ q. present p (get_or os q None)) (length os)
   any_there p [] = sym (any_zero _)
   any_there p (None ∷ os) = any_there p os ∙ sym (any_front (λ q. present p (get_or (None ∷ os) q None)) (length os))
