@@ -1,21 +1,24 @@
--- The reports in turn, as chains of iterators give them: the chain's answer is that of the replicas below their number. Assumes nothing.
-use Rattle.std.proofs.Common.{◌≡◌, ℕ, zero, suc, Bool, true, false, cond, ◌||◌, List, [], ◌∷◌, length, get_or, Some, None, Option, sym, refl, ap, ◌∙◌, ap₂, subst, IsTrue, MatchBool}
+-- The reports in turn, as a chain over them gives them: what `any`, `find` and `reduce` answer, said by replica. Assumes nothing.
+use Rattle.std.proofs.Common.{◌≡◌, ℕ, zero, suc, Bool, true, false, cond, ◌||◌, List, [], ◌∷◌, length, get_or, Some, None, Option, sym, refl, ap, ◌∙◌, ap₂, subst, IsTrue, MatchBool, MatchOption}
 use Rattle.std.proofs.lemmas.Iterator.{YieldsList, YieldsList-from_slice}
 use Rattle.std.proofs.lemmas.Iterator.Adapters.{YieldsList-from_flatten}
-use Rattle.std.proofs.lemmas.Iterator.Consumers.{YieldsList-from_shown}
+use Rattle.std.proofs.lemmas.Iterator.Consumers.{YieldsList-from_shown, reduce_from_yields_List}
 use Rattle.std.proofs.lemmas.Bool.{false≢true}
 use Rattle.std.proofs.Math.Bool.{or_assoc, or-false}
 use Rattle.std.specs.Iterator.Adapters.{option_iter_item, option_iter_done, option_iter_steps, flatten_source, flatten_front, flatten_back, flatten_done, flatten_steps}
-use Rattle.std.specs.List.{flat_map, list_any, find, filter_map, cons_option}
+use Rattle.std.specs.List.{flat_map, list_any, find, filter_map, cons_option, FoldsTo, reduce}
 use Rattle.std.specs.Option.{option_to_list}
 use Rattle.std.specs.Slice.Iter.{iter_rest}
 use Rattle.std.proofs.iter.Yields.{fronts}
 use denote.Ref.{Bor}
+use denote.Param.Members.{Mut}
+use Rattle.std.specs.Fn.{Called}
+use Rattle.std.specs.Iterator.{FoldTurn, ReducesItems, Drains}
 use Rattle.std.specs.Option.{option_or}
 use Rattle.quorum.specs.Below.{any, first}
 use Rattle.rounds.specs.Reports.{present}
 
--- ---- from the front
+-- ---- `any` and `first` from the lowest replica on, as a chain goes
 any_front : (f : ℕ → Bool) (n : ℕ) → any f (suc n) ≡ (f 0 || any (λ k. f (suc k)) n)
 unfolding any
 any_front f zero = sym (or-false (f 0))
@@ -26,6 +29,23 @@ unfolding any
 any_zero f = refl
 
 module _ {A : Type 0} where
+  option_or_none : (o : Option A) → option_or o None ≡ o
+  option_or_none None = refl
+  option_or_none (Some a) = refl
+
+  option_or_assoc : (a b c : Option A) → option_or (option_or a b) c ≡ option_or a (option_or b c)
+  option_or_assoc None b c = refl
+  option_or_assoc (Some a) b c = refl
+
+  first_front : (g : ℕ → Option A) (n : ℕ) → first g (suc n) ≡ option_or (g 0) (first (λ k. g (suc k)) n)
+  unfolding first
+  first_front g zero = sym (option_or_none (g 0))
+  first_front g (suc n) = ap (λ o. option_or o (g (suc n))) (first_front g n) ∙ option_or_assoc (g 0) _ (g (suc n))
+
+  first_zero : (g : ℕ → Option A) → first g 0 ≡ None
+  unfolding first
+  first_zero g = refl
+
   -- ---- the chain `iter().flatten()`
   -- what is left of an option that is gone through
   abbrev left : Bool → Option A → List A
@@ -46,33 +66,18 @@ module _ {A : Type 0} where
       (YieldsList-from_shown option_iter_steps (λ y. y.now) (λ u. left (option_iter_done u) (option_iter_item u)) (λ u t m. left_none _ _ m.1)
       (λ u x t m. left_some _ _ _ _ x m.0 m.1) s)
 
-  -- those that are there
+  -- the reports that are there
   abbrev pub there : List (Option A) → List A
   there os = flat_map option_to_list os
 
+  -- the chain gives them
   pub flatten_yields : {s : _} (becomes : Bor (Option A) → _ → Type 0) (os : List (Option A)) → ((x : Bor (Option A)) (j : _) → becomes x j → (option_iter_item j ≡ x.now) × (option_iter_done j ≡ false)) →
       iter_rest (flatten_source s) ≡ os → flatten_front s ≡ None → flatten_back s ≡ None → flatten_done s ≡ false → YieldsList (flatten_steps fronts becomes option_iter_steps) (λ y. y.now) s (there os)
   flatten_yields becomes os opens source front back done =
       YieldsList-from_flatten becomes option_iter_steps (λ y. y.now) option_to_list (λ x j b. let e = opens x j b in option_yields x.now e.0 e.1)
       (YieldsList-from_slice os source) front back done
 
-  option_or_none : (o : Option A) → option_or o None ≡ o
-  option_or_none None = refl
-  option_or_none (Some a) = refl
-
-  option_or_assoc : (a b c : Option A) → option_or (option_or a b) c ≡ option_or a (option_or b c)
-  option_or_assoc None b c = refl
-  option_or_assoc (Some a) b c = refl
-
-  first_front : (g : ℕ → Option A) (n : ℕ) → first g (suc n) ≡ option_or (g 0) (first (λ k. g (suc k)) n)
-  unfolding first
-  first_front g zero = sym (option_or_none (g 0))
-  first_front g (suc n) = ap (λ o. option_or o (g (suc n))) (first_front g n) ∙ option_or_assoc (g 0) _ (g (suc n))
-
-  first_zero : (g : ℕ → Option A) → first g 0 ≡ None
-  unfolding first
-  first_zero g = refl
-
+  -- ---- what ends the chain
   pub any_there : (p : A → Bool) (os : List (Option A)) → list_any p (there os) ≡ any (λ q. present p (get_or os q None)) (length os)
   any_there p [] = sym (any_zero _)
   any_there p (None ∷ os) = any_there p os ∙ sym (any_front (λ q. present p (get_or (None ∷ os) q None)) (length os))
@@ -91,3 +96,18 @@ module _ {A B : Type 0} (offer : A → Option B) (test : B → Bool) where
       find_there g none some os ∙ ap (λ o. option_or o (first (λ q. g (get_or os q None)) (length os))) (sym none) ∙ sym (first_front (λ q. g (get_or (None ∷ os) q None)) (length os))
   find_there g none some (Some a ∷ os) =
       found_more (offer a) (filter_map offer (there os)) ∙ ap₂ option_or (sym (some a)) (find_there g none some os) ∙ sym (first_front (λ q. g (get_or (Some a ∷ os) q None)) (length os))
+
+module _ {A F : Type 0} (g : Mut F (A × (A × Unit {0})) A) (pick : A → A → A) (f : F) (step : (a x b : A) (q : F) → Called g f (a, (x, tt)) b q → (q ≡ f) × (b ≡ pick a x)) where
+  turns : (xs : List A) (x y : A) (q h : F) → q ≡ f → FoldsTo (FoldTurn g) (q, x) xs (h, y) → FoldsTo (λ a z c. c ≡ pick a z) x xs y
+  turns [] x y q h e t = ap (λ p. p.1) t
+  turns (z ∷ xs) x y q h e t =
+      let c = step x z t.0.1 t.0.0 (subst (λ k. Called g k (x, (z, tt)) t.0.1 t.0.0) e t.1) in
+      (t.0.1, c.1, turns xs t.0.1 y t.0.0 h c.0 t.2)
+
+  reduced_by : {S : Type 0} (steps : S → Option A → S → Type 0) (s : S) (r : Option A) → ReducesItems steps g s f r → MatchOption r (Drains steps s []) (λ y. (x : A) × (xs : List A) × Drains steps s (x ∷ xs) × FoldsTo (λ a z c. c ≡ pick a z) x xs y)
+  reduced_by steps s None t = t
+  reduced_by steps s (Some y) t = (t.0, t.1, t.3, turns t.1 t.0 y f t.2 refl t.4)
+
+  -- `reduce`, of a closure that picks
+  pub reduce_yields : {S : Type 0} {steps : S → Option A → S → Type 0} {all : List A} (s : S) (r : Option A) → ReducesItems steps g s f r → YieldsList steps (λ x. x) s all → r ≡ reduce pick all
+  reduce_yields {steps = steps} s r t e = reduce_from_yields_List pick s r (reduced_by steps s r t) e

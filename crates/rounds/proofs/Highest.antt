@@ -1,11 +1,12 @@
 -- The presumed view: the steps of the loop that finds it, and its law. Assumes nothing.
-use Rattle.std.proofs.Common.{◌≡◌, ℕ, zero, suc, ◌+◌, ◌<◌, false, ltb, List, length, get_or, Some, None, Option, sym, refl, ap, ◌∙◌, subst, ⊎_elim, not-suc-le-zero, add-one, arith}
-use Rattle.std.proofs.lemmas.List.{get_or_default}
+use Rattle.std.proofs.Common.{◌≡◌, ℕ, zero, suc, ◌+◌, ◌<◌, false, cond, ltb, List, [], ◌∷◌, length, get_or, Some, None, Option, sym, refl, ap, ◌∙◌, subst, ⊎_elim, not-suc-le-zero, add-one, add-zero, zero-add, arith}
 use Rattle.std.proofs.lemmas.Bool.{cases_eq, cond_both, cond-true, cond-false, ltb-true, ltb-false, lt-ltb, le-ltb}
+use Rattle.std.specs.List.{fold, reduce, filter_map, cons_option}
 use Rattle.quorum.proofs.Below.{any_from, any_none_from, first_from, first_none_from}
 use Rattle.stores.specs.declared.view.View.{View}
 use Rattle.rounds.specs.declared.report.Report.{Report}
-use Rattle.rounds.specs.Presumed.{numbered_above, exceeded, unexceeded, presumed, higher, Leading, Highest}
+use Rattle.rounds.specs.Presumed.{numbered_above, exceeded, unexceeded, presumed, Leading, Highest}
+use Rattle.rounds.proofs.Chains.{there}
 use Rattle.rounds.specs.Reports.{reported, component_of}
 
 pub some_same : {A : Type 0} {o : Option A} {a b : A} → o ≡ Some a → o ≡ Some b → a ≡ b
@@ -16,6 +17,40 @@ none_some p q = let z : ◌≡◌ {A = ℕ} 0 1 = cc in omega arith
 
 value_same : {v w : View} → v ≡ w → v.number.0 ≡ w.number.0
 value_same e = ap (λ x. x.number.0) e
+
+-- the second where its number is higher
+abbrev pub pick : View → View → View
+pick v w = cond (ltb v.number.0 w.number.0) w v
+
+-- the same where either may be absent
+abbrev higher : Option View → Option View → Option View
+higher o None = o
+higher None (Some w) = Some w
+higher (Some v) (Some w) = Some (pick v w)
+
+-- ---- the chain of the component views
+abbrev pub components : List (Option Report) → List View
+components os = filter_map (λ r. r.component) (there os)
+
+picks_more : (b : View) (o : Option View) (os : List (Option Report)) → ((c : View) → Some (fold pick c (components os)) ≡ fold (λ x p. higher x (component_of p)) (Some c) os) →
+    Some (fold pick b (cons_option o (components os))) ≡ fold (λ x p. higher x (component_of p)) (higher (Some b) o) os
+picks_more b None os h = h b
+picks_more b (Some v) os h = h (pick b v)
+
+picks_from : (os : List (Option Report)) (b : View) → Some (fold pick b (components os)) ≡ fold (λ x p. higher x (component_of p)) (Some b) os
+picks_from [] b = refl
+picks_from (None ∷ os) b = picks_from os b
+picks_from (Some r ∷ os) b = picks_more b r.component os (picks_from os)
+
+picks_first : (o : Option View) (os : List (Option Report)) → reduce pick (components os) ≡ fold (λ x p. higher x (component_of p)) None os →
+    reduce pick (cons_option o (components os)) ≡ fold (λ x p. higher x (component_of p)) (higher None o) os
+picks_first None os h = h
+picks_first (Some v) os h = picks_from os v
+
+picks : (os : List (Option Report)) → reduce pick (components os) ≡ fold (λ x p. higher x (component_of p)) None os
+picks [] = refl
+picks (None ∷ os) = picks os
+picks (Some r ∷ os) = picks_first r.component os (picks os)
 
 module _ (rs : List (Option Report)) where
   -- ---- a turn of the loop
@@ -39,7 +74,7 @@ module _ (rs : List (Option Report)) where
     lowest = h.lowest;
   }
   highest_more n (Some v) (Some w) e h =
-      cond_both (ltb v.number.0 w.number.0) (Some w) (Some v) (Highest rs (n + 1))
+      cond_both (ltb v.number.0 w.number.0) w v (λ x. Highest rs (n + 1) (Some x))
       (λ t. let above = ltb-true _ _ t in record {
         sender = n;
         below = omega arith;
@@ -59,9 +94,19 @@ module _ (rs : List (Option Report)) where
         lowest = h.lowest;
       })
 
-  -- the same, for the report as the loop reads it, at a default of its own
-  pub highest_read : (n : ℕ) (o x : Option View) (d : Option Report) → n < length rs → x ≡ higher o (component_of (get_or rs n d)) → Highest rs n o → Highest rs (n + 1) x
-  highest_read n o x d l e h = subst (Highest rs (n + 1)) (sym e) (highest_more n o (component_of (get_or rs n d)) (ap component_of (get_or_default rs n d None l)) h)
+  -- all turns
+  highest_on : (os : List (Option Report)) (n : ℕ) (o : Option View) → ((k : ℕ) → get_or os k None ≡ reported rs (n + k)) → Highest rs n o →
+      Highest rs (n + length os) (fold (λ b p. higher b (component_of p)) o os)
+  highest_on [] n o e h = subst (λ m. Highest rs m o) (sym (add-zero n)) h
+  highest_on (p ∷ os) n o e h =
+      subst (λ m. Highest rs m (fold (λ b q. higher b (component_of q)) (higher o (component_of p)) os)) (omega arith)
+      (highest_on os (n + 1) (higher o (component_of p)) (λ k. e (suc k) ∙ ap (reported rs) (omega arith))
+      (highest_more n o (component_of p) (ap component_of (e 0) ∙ ap (λ i. component_of (reported rs i)) (add-zero n)) h))
+
+  pub reduced_highest : (n : ℕ) → length rs ≡ n → Highest rs n (reduce pick (components rs))
+  reduced_highest n e =
+      subst (λ m. Highest rs m (reduce pick (components rs))) (zero-add (length rs) ∙ e)
+      (subst (Highest rs (0 + length rs)) (sym (picks rs)) (highest_on rs 0 None (λ k. ap (reported rs) (sym (zero-add k))) (λ q l. absurd (omega arith))))
 
   -- ---- its end
   not_above : (v : View) (q : ℕ) (o : Option View) → o ≡ component_of (reported rs q) → Leading rs 16 v → q < 16 → numbered_above v o ≡ false

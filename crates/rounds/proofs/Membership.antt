@@ -1,5 +1,5 @@
 -- Who holds, who is clear, and that what the holders carry is one. Assumes nothing.
-use Rattle.std.proofs.Common.{◌≡◌, ℕ, ◌+◌, ◌^◌, ◌<◌, Bool, true, false, cond, not, ltb, ◌⊎◌, List, Some, None, Decides, Option, sym, refl, ap, ◌∙◌, subst, ⊎_elim}
+use Rattle.std.proofs.Common.{◌≡◌, ℕ, ◌+◌, ◌^◌, ◌<◌, Bool, true, false, cond, not, ltb, ◌⊎◌, List, is_none, Some, None, Decides, Option, sym, refl, ap, ◌∙◌, subst, ⊎_elim}
 use lib.Bits.{bit_or}
 use Rattle.std.proofs.lemmas.Bool.{cases_Bool, not-true, not_from_false, false≢true, ltb-true, ltb-false, and_parts, and_from, le-ltb, lt-ltb, cond-true, cond-false}
 use Rattle.std.proofs.lemmas.Bool.Decides.{Decides-like, Decides-and, Decides-or}
@@ -40,7 +40,7 @@ at_is v r = decides_same (λ w. same_view w v) v (λ w. decides_view w v) r.comp
 recorded_is : (s : Recorded) (r : Report) → Decides (present (λ t. same_recorded t s) r.recorded) (r.recorded ≡ Some s)
 recorded_is s r = decides_same (λ t. same_recorded t s) s (λ t. decides_recorded t s) r.recorded
 
-absent : {A : Type 0} (o : Option A) → Decides (not (present (λ _. true) o)) (o ≡ None)
+absent : {A : Type 0} (o : Option A) → Decides (is_none o) (o ≡ None)
 absent None = (λ _. refl, λ _. refl)
 absent (Some a) = (λ e. absurd (false≢true e), λ e. absurd (none_some e refl))
 

@@ -1,6 +1,6 @@
 -- How a round ends: the first that applies. `rs` are the reports by replica, `f p s` says whether the part p carries the set s.
 -- Assumes nothing.
-use Rattle.std.specs.Prelude.{ℕ, ◌+◌, Bool, cond, not, ◌&&◌, List, Some, None, Option}
+use Rattle.std.specs.Prelude.{ℕ, ◌+◌, Bool, if◌then◌else◌, not, ◌&&◌, List, Some, None, Option}
 use Rattle.quorum.specs.Below.{within}
 use Rattle.stores.specs.declared.view.Head.{Head}
 use Rattle.stores.specs.declared.view.Recorded.{Recorded}
@@ -14,8 +14,9 @@ use Rattle.rounds.specs.Presumed.{presumed}
 -- why nothing can be settled from the presumed view v, if so: the order of these two stands here alone
 abbrev pub barred : (ℕ → ℕ → Bool) → Head → List (Option Report) → View → Option Outcome
 barred f h rs v =
-    cond (not (f h.set.0 v.set.0)) (Some NotCarried)
-    (cond (any_mark_above rs (v.number.0 + 1)) (Some MarkedPast) None)
+    if not (f h.set.0 v.set.0) then Some NotCarried
+    else if any_mark_above rs (v.number.0 + 1) then Some MarkedPast
+    else None
 
 -- all members of v are in the round, each at v or clear
 abbrev pub all_level : Head → List (Option Report) → View → Bool
@@ -24,13 +25,14 @@ all_level h rs v = within v.set.0 h.set.0 && within v.set.0 (level_members rs v)
 -- where no holders carry v
 abbrev pub clear_or_all : (ℕ → ℕ → Bool) → Head → List (Option Report) → View → Outcome × Option View
 clear_or_all f h rs v =
-    cond (f (clear_members rs v) v.set.0) (SettledByClear, Some v)
-    (cond (all_level h rs v) (SettledByAll, Some v) (Undecided, None))
+    if f (clear_members rs v) v.set.0 then (SettledByClear, Some v)
+    else if all_level h rs v then (SettledByAll, Some v)
+    else (Undecided, None)
 
 -- on what the holders recorded, where they carry v: if its own members in the round carry it, and on nothing else
 abbrev pub unless_held : (ℕ → ℕ → Bool) → Head → Option Recorded → Outcome × Option View → Outcome × Option View
 unless_held f h None rest = rest
-unless_held f h (Some s) rest = cond (f h.set.0 s.view.set.0) (SettledByHolders, Some s.view) (Undecided, None)
+unless_held f h (Some s) rest = if f h.set.0 s.view.set.0 then (SettledByHolders, Some s.view) else (Undecided, None)
 
 abbrev pub unless_barred : Option Outcome → Outcome × Option View → Outcome × Option View
 unless_barred None rest = rest

@@ -1,5 +1,5 @@
 -- Members of a view by what they reported. `f p s` says whether the part p carries the set s. Assumes nothing.
-use Rattle.std.specs.Prelude.{◌≡◌, ℕ, ◌<◌, ◌≤◌, Bool, true, false, cond, ◌&&◌, ◌⊎◌, List, Some, None, Option}
+use Rattle.std.specs.Prelude.{◌≡◌, ℕ, ◌<◌, ◌≤◌, Bool, true, false, if◌then◌else◌, ◌&&◌, ◌⊎◌, List, Some, None, Option}
 use Rattle.quorum.specs.Below.{any, first, select}
 use Rattle.quorum.specs.Members.{has}
 use Rattle.stores.specs.declared.view.Number.{Number}
@@ -32,7 +32,7 @@ any_mark_above rs n = any (λ q. present (marked_above n) (reported rs q)) 16
 -- what was recorded, if its holders carry v
 abbrev pub if_carried : (ℕ → ℕ → Bool) → List (Option Report) → View → Option Recorded → Option Recorded
 if_carried f rs v None = None
-if_carried f rs v (Some s) = cond (f (holders rs v s) v.set.0) (Some s) None
+if_carried f rs v (Some s) = if f (holders rs v s) v.set.0 then Some s else None
 
 -- what somebody recorded whose holders carry v
 abbrev pub backed : (ℕ → ℕ → Bool) → List (Option Report) → View → Option Recorded

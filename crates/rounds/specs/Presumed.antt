@@ -1,5 +1,5 @@
 -- The presumed view: the highest component view reported, the lowest sender's if sets differ. Assumes nothing.
-use Rattle.std.specs.Prelude.{◌≡◌, ℕ, ◌<◌, ◌≤◌, Bool, cond, List, Some, None, Option, nat_lt}
+use Rattle.std.specs.Prelude.{◌≡◌, ℕ, ◌<◌, ◌≤◌, Bool, if◌then◌else◌, List, Some, None, Option, nat_lt}
 use Rattle.quorum.specs.Below.{any, first}
 use Rattle.stores.specs.declared.view.View.{View}
 use Rattle.rounds.specs.declared.report.Report.{Report}
@@ -16,7 +16,7 @@ exceeded rs v = any (λ q. numbered_above v (component_of (reported rs q))) 16
 -- a component view, if none is higher
 abbrev pub unexceeded : List (Option Report) → Option View → Option View
 unexceeded rs None = None
-unexceeded rs (Some v) = cond (exceeded rs v) None (Some v)
+unexceeded rs (Some v) = if exceeded rs v then None else Some v
 
 -- the lowest sender's among the component views that none exceeds
 abbrev pub presumed : List (Option Report) → Option View
@@ -35,9 +35,3 @@ pub record Leading (rs : List (Option Report)) (n : ℕ) (v : View) : Type 0 whe
 abbrev pub Highest : List (Option Report) → ℕ → Option View → Type 0
 Highest rs n None = (q : ℕ) → q < n → component_of (reported rs q) ≡ None
 Highest rs n (Some v) = Leading rs n v
-
--- the higher of two, the first where neither is
-abbrev pub higher : Option View → Option View → Option View
-higher o None = o
-higher None (Some w) = Some w
-higher (Some v) (Some w) = cond (nat_lt v.number.0 w.number.0) (Some w) (Some v)

@@ -1,11 +1,14 @@
 -- What was reported, and what a report says of a view. Assumes nothing.
-use Rattle.std.specs.Prelude.{ℕ, Bool, true, false, not, ◌&&◌, ◌||◌, List, Some, None, Option, nat_lt, slice_index_or}
+use Rattle.std.specs.Prelude.{ℕ, Bool, false, not, ◌&&◌, ◌||◌, List, is_none, Some, None, Option, nat_lt, slice_index_or}
+use Rattle.stores.specs.declared.page.Page.{Page}
 use Rattle.stores.specs.declared.view.Recorded.{Recorded}
 use Rattle.stores.specs.declared.view.View.{View}
 use Rattle.stores.specs.Views.{same_view, same_recorded}
-use Rattle.rounds.specs.declared.report.Claim.{Claim}
-use Rattle.rounds.specs.declared.report.Claim.TheVariants.{Holds, Clear, Level}
 use Rattle.rounds.specs.declared.report.Report.{Report}
+
+-- what a page tells, but for the top stamp
+abbrev pub report_of : Page → Report
+report_of p = record { mode = p.mode; mark = p.mark; component = p.component; recorded = p.recorded }
 
 -- what replica q reported; `rs` are the reports by replica
 abbrev pub reported : List (Option Report) → ℕ → Option Report
@@ -38,13 +41,8 @@ marked_above n r = present (λ m. nat_lt n m.0) r.mark
 
 -- its component view is v and it recorded nothing, or its mark is absent or at most v's number
 abbrev pub clear : View → Report → Bool
-clear v r = (at_view v r && not (present (λ _. true) r.recorded)) || not (marked_above v.number.0 r)
+clear v r = (at_view v r && is_none r.recorded) || not (marked_above v.number.0 r)
 
 -- its component view is v, or it is clear
 abbrev pub level : View → Report → Bool
 level v r = at_view v r || clear v r
-
-abbrev pub says : View → Claim → Report → Bool
-says v (Holds s) = holds v s
-says v Clear = clear v
-says v Level = level v

@@ -46,7 +46,7 @@ fn clear_or_all<R: QuorumRule>(
     (Outcome::Undecided, None)
 }
 
-// The first that applies.
+// The first that applies. Each way out returns where it is met, an absent presumed view too: a rule of the project.
 fn first_that_applies<R: QuorumRule>(
     rule: &R,
     head: Head,

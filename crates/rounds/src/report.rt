@@ -1,8 +1,8 @@
 // What a replica reports to a round.
 ghost use Rattle.std.specs.Prelude.{◌≡◌, ◌+◌};
-ghost use Rattle.rounds.specs.Reports.{at_view, holds, clear, level, marked_above, says};
+ghost use Rattle.rounds.specs.Reports.{report_of, at_view, holds, clear, level, marked_above};
 
-use stores::{Mode, Number, Recorded, View};
+use stores::{Mode, Number, Page, Recorded, View};
 
 // The replica's page, but for the top stamp. An absent view or mark is `None`, never number 0.
 #[derive(Clone, Copy, PartialEq, Eq, Debug)]
@@ -13,25 +13,21 @@ pub struct Report {
     pub recorded: Option<Recorded>,
 }
 
-// What a report may say of a view.
-#[derive(Clone, Copy)]
-pub(crate) enum Claim {
-    Holds(Recorded),
-    Clear,
-    Level,
+// What a replica reports of its page.
+impl From<&Page> for Report {
+    ghost from_gives = { λ p r. r ≡ report_of p.now };
+
+    fn from(page: &Page) -> Report {
+        Report {
+            mode: page.mode,
+            mark: page.mark,
+            component: page.component,
+            recorded: page.recorded,
+        }
+    }
 }
 
 impl Report {
-    pub(crate) fn says(&self, view: View, claim: Claim) -> bool
-        ensures { result ≡ says view claim self.now }
-    {
-        match claim {
-            Claim::Holds(recorded) => self.holds(view, recorded),
-            Claim::Clear => self.is_clear(view),
-            Claim::Level => self.is_level(view),
-        }
-    }
-
     // Its component view is this one.
     fn is_at(&self, view: View) -> bool
         ensures { result ≡ at_view view self.now }
@@ -40,21 +36,21 @@ impl Report {
     }
 
     // At the view, with this recorded: number, set and stamp alike.
-    fn holds(&self, view: View, recorded: Recorded) -> bool
+    pub(crate) fn holds(&self, view: View, recorded: Recorded) -> bool
         ensures { result ≡ holds view recorded self.now }
     {
         self.is_at(view) && self.recorded == Some(recorded)
     }
 
     // At the view with nothing recorded, or with a mark that is absent or at most the view's number.
-    fn is_clear(&self, view: View) -> bool
+    pub(crate) fn is_clear(&self, view: View) -> bool
         ensures { result ≡ clear view self.now }
     {
         self.is_at(view) && self.recorded.is_none() || !self.is_marked_above(view.number)
     }
 
     // At the view, or clear of it.
-    fn is_level(&self, view: View) -> bool
+    pub(crate) fn is_level(&self, view: View) -> bool
         ensures { result ≡ level view self.now }
     {
         self.is_at(view) || self.is_clear(view)
@@ -67,10 +63,11 @@ impl Report {
         self.mark.is_some_and(|mark| number < mark)
     }
 
-    // Its mark exceeds the number after this one. Any number may be reported, so the sum has room of its own.
+    // Its mark exceeds the number after this one. Any number may be reported, so the sum saturates: no mark is above the largest.
     pub(crate) fn is_marked_past(&self, number: Number) -> bool
         ensures { result ≡ marked_above (number.0 + 1) self.now }
     {
-        self.mark.is_some_and(|mark| u64::from(number.0) + 1 < u64::from(mark.0))
+        self.mark
+            .is_some_and(|mark| number.0.saturating_add(1) < mark.0)
     }
 }

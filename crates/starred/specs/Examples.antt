@@ -1,5 +1,5 @@
 -- What an example shows. Assumes nothing.
-use Rattle.std.specs.Prelude.{ℕ, Bool, true, false, cond, ◌&&◌, List, [], ◌∷◌, map, replicate, is_some, Some, None, Option, ◌==◌}
+use Rattle.std.specs.Prelude.{ℕ, Bool, true, false, if◌then◌else◌, ◌&&◌, List, ◌∷◌, map, replicate, is_some, Some, None, Option, ◌==◌}
 use Rattle.std.specs.Bool.{beq}
 use Rattle.std.specs.List.{range_with_len}
 use Rattle.quorum.specs.Members.{has, one, listed, majority}
@@ -19,19 +19,19 @@ use Rattle.starred.specs.declared.table.Example.TheVariants.{Count, Weight, Ends
 -- recorded under stamp 40 by the early, under stamp 41 by the late
 abbrev pub recorded_by : Round → ℕ → Option Recorded
 recorded_by e q =
-    cond (has e.early.0 q) (Some (record { view = e.recorded; stamp = record { 0 = 40 } }))
-    (cond (has e.late.0 q) (Some (record { view = e.recorded; stamp = record { 0 = 41 } })) None)
+    if has e.early.0 q then Some (record { view = e.recorded; stamp = record { 0 = 40 } })
+    else if has e.late.0 q then Some (record { view = e.recorded; stamp = record { 0 = 41 } })
+    else None
 
 abbrev pub report_of : Round → ℕ → Option Report
 report_of e q =
-    cond (has e.members.0 q)
-    (Some (record {
+    if has e.members.0 q then Some (record {
       mode = Reconfiguration;
-      mark = Some (cond (is_some (recorded_by e q)) e.recorded.number e.view.number);
-      component = cond (has e.bare.0 q) None (Some e.view);
+      mark = Some (if is_some (recorded_by e q) then e.recorded.number else e.view.number);
+      component = if has e.bare.0 q then None else Some e.view;
       recorded = recorded_by e q;
-    }))
-    None
+    })
+    else None
 
 unfoldable pub reports_of : Round → List (Option Report)
 reports_of e = map (report_of e) (range_with_len 0 16)
@@ -56,7 +56,3 @@ abbrev pub shows : Example → Bool
 shows (Count p s b) = beq (majority one p.0 s.0) b
 shows (Weight p s b) = beq (majority (listed heavy) p.0 s.0) b
 shows (Ends e o w) = outcome_number (end_of e).0 == outcome_number o && settles (end_of e).1 w
-
-abbrev pub every : {A : Type 0} → (A → Bool) → List A → Bool
-every p [] = true
-every p (x ∷ xs) = p x && every p xs

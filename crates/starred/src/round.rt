@@ -4,6 +4,7 @@ ghost use Rattle.starred.specs.Examples.{recorded_by, report_of, reports_of, end
 
 use quorum::{CountRule, ReplicaSet};
 use rounds::{Outcome, Report, decide};
+use std::array;
 use stores::{Head, Mode, Recorded, Stamp, View};
 
 // The round of `members` by the count rule. Those of `early` hold `recorded` under stamp 40, those of `late` under stamp 41, each
@@ -64,11 +65,7 @@ impl Round {
     fn reports(&self) -> [Option<Report>; 16]
         ensures { result ≡ reports_of self.now }
     {
-        let mut reports = [None; 16];
-        for replica in 0..16u8 {
-            reports[replica as usize] = self.report(replica);
-        }
-        reports
+        array::from_fn(|replica| self.report(replica as u8))
     }
 
     // What the round's decision is.

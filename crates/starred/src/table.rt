@@ -1,7 +1,8 @@
 // The table.
-ghost use Rattle.std.specs.Prelude.{◌≡◌, true};
+ghost use Rattle.std.specs.Prelude.{◌≡◌, IsTrue};
+ghost use Rattle.std.specs.List.{list_all};
 ghost use Rattle.quorum.specs.Members.{listed, majority};
-ghost use Rattle.starred.specs.Examples.{heavy, shows, every};
+ghost use Rattle.starred.specs.Examples.{heavy, shows};
 ghost use Rattle.starred.specs.Table.{table};
 
 use super::round::Round;
@@ -152,7 +153,7 @@ fn lines() -> [Example; 9]
 // The table, with its theorem: each line is as the rules say.
 pub fn starred() -> [Example; 9]
     ensures is { result ≡ table }
-    ensures shown { every shows result ≡ true }
+    ensures shown { IsTrue (list_all shows result) }
 {
     lines()
 }

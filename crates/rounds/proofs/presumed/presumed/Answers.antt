@@ -1,14 +1,20 @@
-use Rattle.std.proofs.Common.{◌≡◌, subst, arith}
+use Rattle.std.proofs.Common.{sym, rules, ap, ◌∙◌, subst}
+use Rattle.std.proofs.lemmas.Iterator.Consumers.{YieldsList-at, YieldsList-from_filter_map}
+use borrow.Author.Tests.{tests}
+use Rattle.std.specs.Slice.Iter.{iter_rest}
 use Rattle.rounds.specs.Presumed.{Highest}
-use Rattle.rounds.proofs.Highest.{highest_read, highest_presumed}
+use Rattle.rounds.proofs.Chains.{flatten_yields, reduce_yields}
+use Rattle.rounds.proofs.Highest.{pick, reduced_highest, highest_presumed}
 use Rattle.rounds.proofs.presumed.presumed.Goals as goal
-
-pub loop-report-preserved : goal.loop-report-preserved
-loop-report-preserved c =
-    highest_read c.args.reports.now c.loop-report.report-index c.loop-report.found c.higher-found.result _ (omega arith) c.higher-found.ensures c.loop-report.invariant
 
 pub returns : goal.returns
 returns c =
-    let all : c.loop-report.report-index ≡ 16 = omega arith in
-    let h = subst (λ n. Highest c.args.reports.now n c.loop-report.found) all c.loop-report.invariant in
-    record { is = highest_presumed c.args.reports.now c.loop-report.found h; highest = h }
+    let rs = c.args.reports.now in
+    let is =
+    reduce_yields _ pick _ (λ a x b q k. search (rules, tests)) c.filter_map.result c.reduce.result c.reduce.ensures.ran
+    (YieldsList-from_filter_map _ (λ r. r.component)
+    (YieldsList-at c.filter_map.ensures.source (flatten_yields _ rs (λ x j b. (b.0, b.1)) (ap iter_rest c.flatten.ensures.source ∙ c.iter.ensures.rest) c.flatten.ensures.front c.flatten.ensures.back c.flatten.ensures.done))
+    c.filter_map.ensures.closure
+    (λ x r q k. search rules)) in
+    let h = subst (Highest rs 16) (sym is) (reduced_highest rs 16 c.told-reports) in
+    record { is = highest_presumed rs c.reduce.result h; highest = h }
