@@ -108,10 +108,8 @@ impl Hall {
     fn make_room(&mut self) -> Result<(), Failure>
         ensures { OnOk result (vec_len self.new.installed < vec_capacity self.new.installed) }
     {
-        match self.installed.reserve(1) {
-            Ok(()) => Ok(()),
-            Err(_) => Err(Failure::NoMemory),
-        }
+        self.installed.reserve(1)?;
+        Ok(())
     }
 
     fn component(&self, replica: u8) -> Option<View> {

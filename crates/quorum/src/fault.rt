@@ -1,8 +1,9 @@
 // Why a call is refused: the fault that all layers share.
 ghost use Rattle.std.specs.Prelude.{◌≡◌};
 ghost use Rattle.quorum.specs.Faults.{reason_number};
-ghost use Rattle.quorum.specs.declared.fault.Failure.TheVariants.{Refused};
+ghost use Rattle.quorum.specs.declared.fault.Failure.TheVariants.{Refused, NoMemory};
 
+use std::alloc::AllocError;
 use std::fmt;
 
 // The layer in which a fault arose. It is kept on the way up.
@@ -104,6 +105,14 @@ impl From<Fault> for Failure {
 
     fn from(fault: Fault) -> Failure {
         Failure::Refused(fault)
+    }
+}
+
+impl From<AllocError> for Failure {
+    ghost from_gives = { λ _ r. r ≡ NoMemory };
+
+    fn from(_: AllocError) -> Failure {
+        Failure::NoMemory
     }
 }
 
