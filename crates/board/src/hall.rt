@@ -2,17 +2,16 @@
 ghost use Rattle.std.specs.Prelude.{◌≡◌, ◌<◌, replicate, vec_len, vec_capacity, MatchResult, OnOk};
 ghost use Rattle.stores.specs.Kept.{fresh};
 
-use super::requests::{made_call, made_need, replica_of};
-use super::show::{Shown, power_name, stage_name};
+use super::show::End;
 use floor::Floor;
 use manager::{Answer, Need};
 use quorum::{ChosenRule, Failure, Fault, QuorumRule, WeightRule};
 use rows::{Message, Posts};
 use runs::Call;
-use script::{Command, Line};
+use script::{Command, parse};
 use std::io;
 use std::io::Write;
-use stores::{HeldPages, Number, View};
+use stores::{HeldPages, View};
 
 #[derive(Drop)]
 pub struct Hall {
@@ -39,11 +38,11 @@ impl Hall {
     }
 
     // Carries out a line and prints what came of it, under the line's number.
-    pub fn hear<W: Write>(&mut self, number: u64, line: Line, out: &mut W) -> io::Result<()> {
-        match line {
-            Line::Blank => Ok(()),
-            Line::Unknown => writeln!(out, "{number}: not understood"),
-            Line::Says(command) => self.carry_out(number, command, out),
+    pub fn hear<W: Write>(&mut self, number: u64, line: &[u8], out: &mut W) -> io::Result<()> {
+        match parse(line) {
+            Ok(None) => Ok(()),
+            Ok(Some(command)) => self.carry_out(number, command, out),
+            Err(error) => writeln!(out, "{number}: {error}"),
         }
     }
 
@@ -62,15 +61,11 @@ impl Hall {
                 let made = self.weigh(weights);
                 self.tell(number, made, out)
             }
-            Command::Found(set, first, wanted) => {
-                let view = View {
-                    number: Number(first),
-                    set,
-                };
-                let founded = self.found(view, made_need(wanted));
+            Command::Found(view, need) => {
+                let founded = self.found(view, need);
                 self.tell(number, founded, out)
             }
-            Command::Call(call) => self.make_and_tell(number, made_call(call), out),
+            Command::Call(call) => self.make_and_tell(number, call, out),
             Command::Carries(part, set) => {
                 if self.rule.carries(part, set) {
                     writeln!(out, "{number}: carries")
@@ -113,10 +108,8 @@ impl Hall {
     fn make_room(&mut self) -> Result<(), Failure>
         ensures { OnOk result (vec_len self.new.installed < vec_capacity self.new.installed) }
     {
-        match self.installed.reserve(1) {
-            Ok(()) => Ok(()),
-            Err(_) => Err(Failure::NoMemory),
-        }
+        self.installed.reserve(1)?;
+        Ok(())
     }
 
     fn component(&self, replica: u8) -> Option<View> {
@@ -126,13 +119,13 @@ impl Hall {
     // A view was installed at the call's replica if its page has come to hold another one.
     fn make(&mut self, call: Call) -> Result<Answer, Failure> {
         self.make_room()?;
-        let replica = replica_of(call);
+        let replica = call.replica();
         let before = self.component(replica);
         let answer = self.floor.apply(&mut self.post, call)?;
-        if let Some(view) = self.component(replica) {
-            if !is_view(before, view) {
-                self.note_installed(view);
-            }
+        if let Some(view) = self.component(replica)
+            && before != Some(view)
+        {
+            self.note_installed(view);
         }
         Ok(answer)
     }
@@ -140,17 +133,11 @@ impl Hall {
     // The view is in the list. A view is installed only after the one numbered below it, so the numbers rise along the
     // list, and the search goes back no further than to a lower number.
     fn was_installed(&self, view: View) -> bool {
-        let length = self.installed.len();
-        for back in 0..length {
-            let earlier = self.installed[length - 1 - back];
-            if earlier == view {
-                return true;
-            }
-            if earlier.number.0 < view.number.0 {
-                return false;
-            }
-        }
-        false
+        self.installed
+            .iter()
+            .rev()
+            .take_while(|earlier| earlier.number.0 >= view.number.0)
+            .any(|earlier| *earlier == view)
     }
 
     // There is room for it.
@@ -198,13 +185,13 @@ impl Hall {
             self.account_of(replica, out)?;
         }
         self.account_of_installed(out)?;
-        let length = self.post.len();
-        let calls = self.accepted.saturating_add(self.refused);
-        let accepted = self.accepted;
-        let refused = self.refused;
         writeln!(
             out,
-            "  post {length}, calls {calls}, accepted {accepted}, refused {refused}"
+            "  post {}, calls {}, accepted {}, refused {}",
+            self.post.len(),
+            self.accepted.saturating_add(self.refused),
+            self.accepted,
+            self.refused
         )
     }
 
@@ -213,43 +200,34 @@ impl Hall {
         let Some(row) = self.floor.row(replica) else {
             return Ok(());
         };
-        let Some(held) = self.floor.page(replica) else {
+        let Some(page) = self.floor.page(replica) else {
             return Ok(());
         };
-        let power = power_name(row.up);
-        let stage = stage_name(row.stage);
-        let mode = Shown(held.mode);
-        let page = Shown(held);
-        writeln!(out, "  {replica}: {power} {mode} {stage}, {page}")
+        let power = if row.up { "up" } else { "down" };
+        writeln!(
+            out,
+            "  {replica}: {power} {} {}, {page}",
+            page.mode, row.stage
+        )
     }
 
     fn account_of_installed<W: Write>(&self, out: &mut W) -> io::Result<()> {
-        if self.installed.is_empty() {
+        let Some((first, others)) = self.installed.split_first() else {
             return writeln!(out, "  installed none");
+        };
+        write!(out, "  installed {first}")?;
+        for view in others {
+            write!(out, "; {view}")?;
         }
-        write!(out, "  installed")?;
-        let mut before = "";
-        for view in self.installed.as_slice() {
-            let view = Shown(*view);
-            write!(out, "{before} {view}")?;
-            before = ";";
-        }
-        writeln!(out, "")
+        writeln!(out)
     }
-}
-
-fn is_view(held: Option<View>, view: View) -> bool {
-    let Some(held) = held else {
-        return false;
-    };
-    held == view
 }
 
 // An accepted call: how a round ended, if one did, and what was posted, from this index of the post on.
 fn tell_answer<W: Write>(number: u64, first: usize, answer: Answer, out: &mut W) -> io::Result<()> {
     match answer.ended {
-        Some(end) => {
-            let end = Shown(end);
+        Some((outcome, settled)) => {
+            let end = End(outcome, settled);
             writeln!(out, "{number}: accepted, round ended with {end}")?;
         }
         None => writeln!(out, "{number}: accepted")?,
@@ -265,6 +243,5 @@ fn tell_answer<W: Write>(number: u64, first: usize, answer: Answer, out: &mut W)
 }
 
 fn tell_posted<W: Write>(index: usize, message: Message, out: &mut W) -> io::Result<()> {
-    let message = Shown(message);
     writeln!(out, "  posted {index}: {message}")
 }

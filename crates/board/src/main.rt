@@ -2,11 +2,9 @@
 #![tactic(auto)]
 
 mod hall;
-mod requests;
 mod show;
 
 use hall::Hall;
-use script::parse;
 use std::io;
 use std::io::{BufRead, BufReader, BufWriter, Write};
 
@@ -20,7 +18,7 @@ fn main(rt: HostRuntime) -> io::Result<()> {
         if input.read_until(b'\n', &mut line)? == 0 {
             break;
         }
-        hall.hear(number, parse(line.as_slice()), &mut output)?;
+        hall.hear(number, line.as_slice(), &mut output)?;
     }
     hall.account(&mut output)?;
     output.flush()

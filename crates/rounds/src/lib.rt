@@ -6,6 +6,7 @@ mod members;
 mod outcome;
 mod presumed;
 mod report;
+mod show;
 
 pub use decision::decide;
 pub use outcome::Outcome;

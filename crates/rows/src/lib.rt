@@ -4,6 +4,7 @@
 mod message;
 mod row;
 mod rules;
+mod show;
 
 pub use message::{Body, Message, Part, Posts};
 pub use row::{Applied, Confirmed, Entered, Gathered, Reference, Row, Stage};

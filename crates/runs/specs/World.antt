@@ -20,6 +20,8 @@ use Rattle.stores.specs.Kept.{page_at, Spent, no_place}
 use Rattle.stores.specs.Views.{head}
 use Rattle.stores.specs.declared.page.Page.{Page}
 use Rattle.runs.specs.Founding.{row_at}
+use Rattle.runs.specs.declared.work.Call.{Call}
+use Rattle.runs.specs.declared.work.Call.TheVariants.{Whole, Cut, Stop}
 use Rattle.runs.specs.declared.work.Work.{Work}
 use Rattle.runs.specs.declared.work.Work.TheVariants.{View, Deliver, Loss, Start}
 use Rattle.quorum.specs.Faults.{refused_at, refused_if}
@@ -38,6 +40,12 @@ replica_of (View r h) = r
 replica_of (Deliver r i) = r
 replica_of (Loss r q) = r
 replica_of (Start r) = r
+
+-- the same of a call that is whole, cut off or a stop
+abbrev pub replica_of_call : Call → ℕ
+replica_of_call (Whole work) = replica_of work
+replica_of_call (Cut work n) = replica_of work
+replica_of_call (Stop r) = r
 
 -- ---- refusals of the floor
 abbrev pub floor_refusal : Reason → ℕ → Fault

@@ -1,4 +1,7 @@
 // The calls of a floor.
+ghost use Rattle.std.specs.Prelude.{◌≡◌};
+ghost use Rattle.runs.specs.World.{replica_of, replica_of_call};
+
 use stores::Head;
 
 // Calls that write a page, and so may be cut off.
@@ -19,4 +22,30 @@ pub enum Call {
     // The page's write is broken off after so many byte-writes.
     Cut(Work, u64),
     Stop(u8),
+}
+
+impl Work {
+    // The replica at which the call is made.
+    pub fn replica(self) -> u8
+        ensures { result ≡ replica_of self }
+    {
+        match self {
+            Work::View(replica, _)
+            | Work::Deliver(replica, _)
+            | Work::Loss(replica, _)
+            | Work::Start(replica) => replica,
+        }
+    }
+}
+
+impl Call {
+    // The replica at which the call is made.
+    pub fn replica(self) -> u8
+        ensures { result ≡ replica_of_call self }
+    {
+        match self {
+            Call::Whole(work) | Call::Cut(work, _) => work.replica(),
+            Call::Stop(replica) => replica,
+        }
+    }
 }

@@ -2,34 +2,19 @@
 use super::numerals::{number, number8, number32};
 use super::sets::members;
 use super::words::{end, first_word};
-use quorum::ReplicaSet;
-
-// Calls that may be cut off.
-#[derive(Clone, Copy)]
-pub enum Work {
-    // The replica takes up a view: a stamp and a set.
-    View(u8, u32, ReplicaSet),
-    // The message at an index of the post is delivered to the replica.
-    Deliver(u8, u64),
-    // The second is lost to the first.
-    Loss(u8, u8),
-    Start(u8),
-}
-
-#[derive(Clone, Copy)]
-pub enum Call {
-    Whole(Work),
-    // Broken off after so many byte-writes.
-    Cut(Work, u64),
-    Stop(u8),
-}
+use runs::{Call, Work};
+use stores::{Head, Stamp};
 
 fn view(rest: &[u8]) -> Option<Work> {
     let (replica, rest) = first_word(rest)?;
     let (stamp, rest) = first_word(rest)?;
     let (set, rest) = first_word(rest)?;
     end(rest)?;
-    Some(Work::View(number8(replica)?, number32(stamp)?, members(set)?))
+    let head = Head {
+        stamp: Stamp(number32(stamp)?),
+        set: members(set)?,
+    };
+    Some(Work::View(number8(replica)?, head))
 }
 
 fn deliver(rest: &[u8]) -> Option<Work> {

@@ -1,16 +1,14 @@
 // The commands of a script.
-use super::calls::{Call, cut, read_work, stop};
+use super::calls::{cut, read_work, stop};
 use super::numerals::{number8, number32};
 use super::sets::members;
 use super::words::{content, end, first_word};
+use manager::Need;
 use quorum::ReplicaSet;
-
-// How many States a founded floor wants: one, or more than half.
-#[derive(Clone, Copy)]
-pub enum Wanted {
-    One,
-    Half,
-}
+use runs::Call;
+use std::error::Error;
+use std::fmt;
+use stores::{Number, View};
 
 #[derive(Clone, Copy)]
 pub enum Command {
@@ -18,8 +16,8 @@ pub enum Command {
     FloorCount,
     // A new floor with the weight rule of these weights.
     FloorWeight([u8; 16]),
-    // The first view: its set and its number.
-    Found(ReplicaSet, u32, Wanted),
+    // The first view, and how many States are wanted.
+    Found(View, Need),
     // A call at one replica.
     Call(Call),
     // Does the part carry the set by the floor's rule?
@@ -28,20 +26,24 @@ pub enum Command {
     Account,
 }
 
-// What a line of a script says.
-#[derive(Clone, Copy)]
-pub enum Line {
-    Blank,
-    Unknown,
-    Says(Command),
+// The words of a line fit no command.
+#[derive(Clone, Copy, PartialEq, Eq, Debug)]
+pub struct NotUnderstood;
+
+impl fmt::Display for NotUnderstood {
+    fn fmt<W: fmt::Write>(&self, f: &mut fmt::Formatter<W>) -> fmt::Result {
+        f.write_str("not understood")
+    }
 }
+
+impl Error for NotUnderstood {}
 
 fn weights(rest: &[u8]) -> Option<Command> {
     let mut weights = [0; 16];
     let mut rest = rest;
-    for replica in 0..16usize {
+    for weight in &mut weights {
         let (word, after) = first_word(rest)?;
-        weights[replica] = number8(word)?;
+        *weight = number8(word)?;
         rest = after;
     }
     end(rest)?;
@@ -60,10 +62,11 @@ fn floor(rest: &[u8]) -> Option<Command> {
     }
 }
 
-fn read_wanted(word: &[u8]) -> Option<Wanted> {
+// How many States a founded floor wants: one, or more than half.
+fn read_need(word: &[u8]) -> Option<Need> {
     match word {
-        b"one" => Some(Wanted::One),
-        b"half" => Some(Wanted::Half),
+        b"one" => Some(Need::One),
+        b"half" => Some(Need::MoreThanHalf),
         _ => None,
     }
 }
@@ -73,7 +76,11 @@ fn found(rest: &[u8]) -> Option<Command> {
     let (number, rest) = first_word(rest)?;
     let (need, rest) = first_word(rest)?;
     end(rest)?;
-    Some(Command::Found(members(set)?, number32(number)?, read_wanted(need)?))
+    let view = View {
+        number: Number(number32(number)?),
+        set: members(set)?,
+    };
+    Some(Command::Found(view, read_need(need)?))
 }
 
 fn carries(rest: &[u8]) -> Option<Command> {
@@ -108,13 +115,11 @@ fn understand(word: &[u8], rest: &[u8]) -> Option<Command> {
     }
 }
 
-// Any bytes may come, and any number of them.
-pub fn parse(line: &[u8]) -> Line {
+// What a line says; nothing where it is blank. Any bytes may come, and any number of them.
+pub fn parse(line: &[u8]) -> Result<Option<Command>, NotUnderstood> {
     let Some((word, rest)) = first_word(content(line)) else {
-        return Line::Blank;
+        return Ok(None);
     };
-    match understand(word, rest) {
-        Some(command) => Line::Says(command),
-        None => Line::Unknown,
-    }
+    let command = understand(word, rest).ok_or(NotUnderstood)?;
+    Ok(Some(command))
 }

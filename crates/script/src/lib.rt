@@ -7,7 +7,6 @@ mod numerals;
 mod sets;
 mod words;
 
-pub use calls::{Call, Work};
-pub use commands::{Command, Line, Wanted, parse};
+pub use commands::{Command, NotUnderstood, parse};
 pub use numerals::{number, number8, number32};
 pub use sets::members;

@@ -1,5 +1,5 @@
 // Decimal numbers.
-ghost use Rattle.std.specs.Prelude.{◌≡◌, ◌<◌, IfSome};
+ghost use Rattle.std.specs.Prelude.{◌≡◌};
 ghost use Rattle.script.specs.Numerals.{one_more, reads, below};
 
 // A number with one more digit.
@@ -21,35 +21,21 @@ pub fn number(word: &[u8]) -> Option<u64>
     }
     let mut value: u64 = 0;
     for byte in word {
-        let Some(more) = one_more(value, *byte) else {
-            return None;
-        };
-        value = more;
+        value = one_more(value, *byte)?;
     }
     Some(value)
-}
-
-// The number that a word reads as, where it is below the limit.
-fn number_below(word: &[u8], limit: u64) -> Option<u64>
-    ensures value { result ≡ below limit (reads word.now) }
-    ensures bound { IfSome result (λ value. value < limit) }
-{
-    let value = number(word)?;
-    if value < limit { Some(value) } else { None }
 }
 
 // The number that a word reads as, where 8 bits hold it.
 pub fn number8(word: &[u8]) -> Option<u8>
     ensures { result ≡ below 256 (reads word.now) }
 {
-    let value = number_below(word, 256)?;
-    Some(value as u8)
+    u8::try_from(number(word)?).ok()
 }
 
 // The number that a word reads as, where 32 bits hold it.
 pub fn number32(word: &[u8]) -> Option<u32>
     ensures { result ≡ below 4294967296 (reads word.now) }
 {
-    let value = number_below(word, 4_294_967_296)?;
-    Some(value as u32)
+    u32::try_from(number(word)?).ok()
 }

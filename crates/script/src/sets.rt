@@ -26,25 +26,18 @@ fn listed(text: &[u8]) -> Option<ReplicaSet>
     if text.is_empty() {
         return Some(set);
     }
-    let mut start = 0;
-    for (end, byte) in text.iter().enumerate() {
-        if *byte == b',' {
-            let Some(more) = with_replica(set, &text[start..end]) else {
-                return None;
-            };
-            set = more;
-            start = end + 1;
-        }
+    for word in text.split(|byte| *byte == b',') {
+        set = with_replica(set, word)?;
     }
-    with_replica(set, &text[start..])
+    Some(set)
 }
 
 // The set that a word names: members 0 to 15, in any order.
 pub fn members(word: &[u8]) -> Option<ReplicaSet>
     ensures { result ≡ set_of word.now }
 {
-    let [b'{', .., b'}'] = word else {
+    let [b'{', inner @ .., b'}'] = word else {
         return None;
     };
-    listed(&word[1..word.len() - 1])
+    listed(inner)
 }

@@ -1,14 +1,12 @@
 // Lines of a script, word by word, as bytes: a script need not be text.
-ghost use Rattle.std.specs.Prelude.{◌≤◌, length};
 
 // A line without its comment and its end.
 pub fn content(line: &[u8]) -> &[u8] {
-    for (i, byte) in line.iter().enumerate() {
-        if *byte == b'#' || *byte == b'\n' {
-            return &line[0..i];
-        }
-    }
-    line
+    let end = line
+        .iter()
+        .position(|byte| *byte == b'#' || *byte == b'\n')
+        .unwrap_or(line.len());
+    &line[..end]
 }
 
 fn is_blank(byte: u8) -> bool {
@@ -16,33 +14,18 @@ fn is_blank(byte: u8) -> bool {
     byte == b' ' || byte == b'\t' || byte == b'\r'
 }
 
-// How many bytes at the front are blanks, or are not.
-fn leading(text: &[u8], blanks: bool) -> usize
-    ensures { result ≤ length text.now }
-{
-    for (i, byte) in text.iter().enumerate() {
-        if is_blank(*byte) != blanks {
-            return i;
-        }
-    }
-    text.len()
-}
-
 // The first word and what follows it.
 pub fn first_word(text: &[u8]) -> Option<(&[u8], &[u8])> {
-    let start = leading(text, true);
-    let (_, from) = text.split_at(start);
-    let end = leading(from, false);
-    if end == 0 {
-        return None;
-    }
+    let start = text.iter().position(|byte| !is_blank(*byte))?;
+    let from = &text[start..];
+    let end = from
+        .iter()
+        .position(|byte| is_blank(*byte))
+        .unwrap_or(from.len());
     Some(from.split_at(end))
 }
 
 // Nothing follows.
 pub fn end(rest: &[u8]) -> Option<()> {
-    match first_word(rest) {
-        Some(_) => None,
-        None => Some(()),
-    }
+    first_word(rest).is_none().then_some(())
 }

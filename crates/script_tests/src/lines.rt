@@ -1,11 +1,13 @@
 // Lines: which command each one says.
-use script::{Call, Command, Line, Wanted, Work, parse};
+use manager::Need;
+use runs::{Call, Work};
+use script::{Command, NotUnderstood, parse};
 use std::process::Abort;
 use std::test::Fail;
 
 fn work_kind(work: Work) -> &'static str {
     match work {
-        Work::View(_, _, _) => "view",
+        Work::View(_, _) => "view",
         Work::Deliver(_, _) => "deliver",
         Work::Loss(_, _) => "loss",
         Work::Start(_) => "start",
@@ -23,15 +25,15 @@ fn call_kind(call: Call) -> &'static str {
 // A line's kind, for comparing.
 fn kind(line: &[u8]) -> &'static str {
     match parse(line) {
-        Line::Blank => "blank",
-        Line::Unknown => "unknown",
-        Line::Says(Command::FloorCount) => "count",
-        Line::Says(Command::FloorWeight(_)) => "weight",
-        Line::Says(Command::Found(_, _, Wanted::One)) => "found one",
-        Line::Says(Command::Found(_, _, Wanted::Half)) => "found half",
-        Line::Says(Command::Call(call)) => call_kind(call),
-        Line::Says(Command::Carries(_, _)) => "carries",
-        Line::Says(Command::Account) => "account",
+        Ok(None) => "blank",
+        Err(NotUnderstood) => "unknown",
+        Ok(Some(Command::FloorCount)) => "count",
+        Ok(Some(Command::FloorWeight(_))) => "weight",
+        Ok(Some(Command::Found(_, Need::One))) => "found one",
+        Ok(Some(Command::Found(_, Need::MoreThanHalf))) => "found half",
+        Ok(Some(Command::Call(call))) => call_kind(call),
+        Ok(Some(Command::Carries(_, _))) => "carries",
+        Ok(Some(Command::Account)) => "account",
     }
 }
 
@@ -99,7 +101,7 @@ fn not_understood(rt: HostRuntime) {
 // The weights and sets of a line are those that it names, in order.
 #[test]
 fn operands(rt: HostRuntime) -> Result<(), Fail> {
-    let Line::Says(Command::FloorWeight(weights)) = parse(
+    let Ok(Some(Command::FloorWeight(weights))) = parse(
         b"floor weight 1 2 3 4 5 6 7 8 9 10 11 12 13 14 15 255\n",
     ) else {
         return Err(Fail::new("sixteen weights"));
@@ -108,7 +110,7 @@ fn operands(rt: HostRuntime) -> Result<(), Fail> {
         weights,
         [1, 2, 3, 4, 5, 6, 7, 8, 9, 10, 11, 12, 13, 14, 15, 255]
     );
-    let Line::Says(Command::Carries(part, set)) = parse(b"carries {1} {1,2}\n") else {
+    let Ok(Some(Command::Carries(part, set))) = parse(b"carries {1} {1,2}\n") else {
         return Err(Fail::new("two sets"));
     };
     assert_eq!(rt; part.0, 0b10);
@@ -196,7 +198,11 @@ fn no_cuts(rt: HostRuntime) {
 // The work's operands in order, a set by its bits.
 fn listed(work: Work) -> [u64; 3] {
     match work {
-        Work::View(replica, stamp, set) => [u64::from(replica), u64::from(stamp), u64::from(set.0)],
+        Work::View(replica, head) => [
+            u64::from(replica),
+            u64::from(head.stamp.0),
+            u64::from(head.set.0),
+        ],
         Work::Deliver(replica, index) => [u64::from(replica), index, 0],
         Work::Loss(replica, lost) => [u64::from(replica), u64::from(lost), 0],
         Work::Start(replica) => [u64::from(replica), 0, 0],
@@ -204,7 +210,7 @@ fn listed(work: Work) -> [u64; 3] {
 }
 
 fn check_work(rt: &impl Abort, line: &str, expected: [u64; 3]) -> Result<(), Fail> {
-    let Line::Says(Command::Call(Call::Whole(work))) = parse(line.as_bytes()) else {
+    let Ok(Some(Command::Call(Call::Whole(work)))) = parse(line.as_bytes()) else {
         return Err(Fail::new(line));
     };
     assert_eq!(rt; listed(work), expected, "{}", line);
@@ -222,19 +228,19 @@ fn call_operands(rt: HostRuntime) -> Result<(), Fail> {
 
 #[test]
 fn cut_and_founding_operands(rt: HostRuntime) -> Result<(), Fail> {
-    let Line::Says(Command::Call(Call::Cut(work, writes))) = parse(b"cut 9 loss 3 5\n") else {
+    let Ok(Some(Command::Call(Call::Cut(work, writes)))) = parse(b"cut 9 loss 3 5\n") else {
         return Err(Fail::new("a cut"));
     };
     assert_eq!(rt; writes, 9);
     assert_eq!(rt; listed(work), [3, 5, 0]);
-    let Line::Says(Command::Call(Call::Stop(replica))) = parse(b"stop 6\n") else {
+    let Ok(Some(Command::Call(Call::Stop(replica)))) = parse(b"stop 6\n") else {
         return Err(Fail::new("a stop"));
     };
     assert_eq!(rt; replica, 6);
-    let Line::Says(Command::Found(set, number, _)) = parse(b"found {1,2} 7 half\n") else {
+    let Ok(Some(Command::Found(view, _))) = parse(b"found {1,2} 7 half\n") else {
         return Err(Fail::new("a founding"));
     };
-    assert_eq!(rt; set.0, 0b110);
-    assert_eq!(rt; number, 7);
+    assert_eq!(rt; view.set.0, 0b110);
+    assert_eq!(rt; view.number.0, 7);
     Ok(())
 }

@@ -1,7 +1,7 @@
-use Rattle.std.proofs.Common.{◌≡◌, drop, Some}
-use Rattle.script.specs.Numerals.{reads, reads_on}
+use Rattle.std.proofs.Common.{◌≡◌, take, Some, fold}
+use Rattle.script.specs.Numerals.{read_on}
 use Rattle.script.proofs.numerals.number.Given as goal
 
--- the rest is read on from the value so far
+-- the digits so far read as the value
 abbrev pub invariant-loop-byte : goal.invariant-loop-byte
-invariant-loop-byte l = reads l.word ≡ reads_on (Some l.value) (drop l.byte-index l.word)
+invariant-loop-byte l = Some l.value ≡ fold read_on (Some 0) (take l.byte-index l.word)

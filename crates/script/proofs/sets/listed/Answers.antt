@@ -1,53 +1,32 @@
-use Rattle.std.proofs.Common.{◌≡◌, ◌+◌, length, drop, Some, sym, ap, ◌∙◌, arith, rules}
-use Rattle.std.proofs.lemmas.Bool.{eq-eqb, ne_eqb}
+use Rattle.std.proofs.Common.{◌≡◌, ◌<◌, ◌==◌, length, get_or, take, map, None, Some, fold, refl, ap, ◌∙◌, rules, tests}
+use Rattle.std.proofs.lemmas.Iterator.Consumers.{YieldsList-at, YieldsList-so_far, YieldsList-turn, YieldsList-end}
+use Rattle.std.proofs.lemmas.Iterator.Splits.{YieldsList-from_slice_split}
+use Rattle.std.proofs.lemmas.List.Folds.{fold_stuck}
 use Rattle.script.specs.Numerals.{reads}
-use Rattle.script.specs.Sets.{parts, with_replica, with_all}
-use Rattle.script.proofs.Listing.{listed_nothing, listed_starts, part, parts_other, parts_comma, with_all_stops, parts_end}
+use Rattle.script.specs.Sets.{with_replica, joined, nobody, words}
 use Rattle.script.proofs.sets.listed.Goals as goal
-use Rattle.script.proofs.sets.listed.Goals.{then-byte-eq44+in-Some, else-byte-eq44}
 
-pub returns-then-is_empty : goal.returns-then-is_empty
-returns-then-is_empty c = sym (listed_nothing c.args.text.now (search rules))
-
-pub loop-end-init : goal.loop-end-init
-loop-end-init c = (omega arith, listed_starts c.args.text.now (search rules))
-
-pub loop-end-preserved : goal.loop-end-preserved
-loop-end-preserved c =
-    let w = c.args.text.now in
-    let s = c.loop-end.set in
-    let a = c.loop-end.start in
-    let i = c.loop-end.end in
-    let rest = drop (i + 1) w in
-    elim c.if-byte-eq44.branch [
-      | then-byte-eq44+in-Some x ↦
-          let named : x.with_replica.result ≡ with_replica s (reads (part w a i)) = x.with_replica.ensures in
-          let here = c.loop-end.invariant.1 ∙ parts_comma s w a i c.loop-end-test.true (eq-eqb _ _ x.if-byte-eq44.true) ∙
-          ap (λ o. with_all o (parts (part w (i + 1) (i + 1)) rest)) (sym named ∙ x.in-Some.is) in (
-            omega (arith, x.start-is),
-            here ∙ ap (λ t. with_all (Some t) (parts (part w (i + 1) (i + 1)) rest)) (sym x.set-is) ∙
-                ap (λ k. with_all (Some c.if-byte-eq44.set) (parts (part w k (i + 1)) rest)) (sym x.start-is),
-          )
-      | else-byte-eq44 x ↦
-          let here = c.loop-end.invariant.1 ∙ parts_other s w a i c.loop-end.invariant.0 c.loop-end-test.true (ne_eqb _ _ x.if-byte-eq44.false) in (
-            omega (arith, x.start-is, c.loop-end.invariant.0),
-            here ∙ ap (λ t. with_all (Some t) (parts (part w a (i + 1)) rest)) (sym x.set-is) ∙
-                ap (λ k. with_all (Some c.if-byte-eq44.set) (parts (part w k (i + 1)) rest)) (sym x.start-is),
-          )
-    ]
-
-pub returns-in_default : goal.returns-in_default
-returns-in_default c =
-    let w = c.args.text.now in
-    let i = c.loop-end.end in
-    let a = c.loop-end.start in
-    let named : c.with_replica.result ≡ with_replica c.loop-end.set (reads (part w a i)) = c.with_replica.ensures in
-    sym (c.loop-end.invariant.1 ∙ parts_comma c.loop-end.set w a i c.loop-end-test.true (search rules) ∙
-    ap (λ o. with_all o (parts (part w (i + 1) (i + 1)) (drop (i + 1) w))) (sym named ∙ c.in_default.is) ∙ with_all_stops _)
+-- a word that names no replica ends the reading
+pub returns-in_err-set : goal.returns-in_err-set
+returns-in_err-set c =
+    let t = c.args.text.now in
+    let w = c.in-Some.word.now in
+    let n = length c.loop-word.yielded in
+    let so_far : map (λ x. x.now) c.loop-word.yielded ≡ take n (words t) = YieldsList-so_far
+    (YieldsList-at c.into_iter-word-iterator.ensures.into_iter_gives (YieldsList-from_slice_split _ (λ b. b == 44) t c.split-word-items.ensures.rest c.split-word-items.ensures.done c.split-word-items.ensures.closure (λ x r q k. search (rules, tests))))
+    c.loop-word.yielded _ c.loop-word.yielded_by in
+    let turn : (n < length (words t)) × (w ≡ get_or (words t) n w) = YieldsList-turn
+    (YieldsList-at c.into_iter-word-iterator.ensures.into_iter_gives (YieldsList-from_slice_split _ (λ b. b == 44) t c.split-word-items.ensures.rest c.split-word-items.ensures.done c.split-word-items.ensures.closure (λ x r q k. search (rules, tests))))
+    c.loop-word.yielded _ c.loop-word.yielded_by _ _ c.in-Some.word c.in-Some.is c.next.ensures.steps in
+    let here : with_replica c.loop-word.set (reads w) ≡ None = search rules in
+    let stuck : None ≡ fold joined (Some nobody) (words t) = fold_stuck joined None (λ x. refl) (Some nobody) (words t) n w turn.0 (rw (← so_far, ← c.loop-word.invariant, ← turn.1) here) in
+    search (rules, stuck)
 
 pub returns : goal.returns
 returns c =
-    let w = c.args.text.now in
-    let a = c.loop-end.start in
-    let named : c.with_replica-2.result ≡ with_replica c.loop-end.set (reads (part w a (length w))) = c.with_replica-2.ensures in
-    named ∙ sym (c.loop-end.invariant.1 ∙ parts_end c.loop-end.set w a c.loop-end.end (search rules) (search rules))
+    let t = c.args.text.now in
+    let all = YieldsList-end
+    (YieldsList-at c.into_iter-word-iterator.ensures.into_iter_gives (YieldsList-from_slice_split _ (λ b. b == 44) t c.split-word-items.ensures.rest c.split-word-items.ensures.done c.split-word-items.ensures.closure (λ x r q k. search (rules, tests))))
+    c.loop-word.yielded _ c.loop-word.yielded_by _ _ c.in-None.is c.next.ensures.steps in
+    let joined_all : Some c.loop-word.set ≡ fold joined (Some nobody) (words t) = c.loop-word.invariant ∙ ap (fold joined (Some nobody)) all.0 in
+    search (rules, joined_all)
