@@ -88,15 +88,10 @@ impl Page {
     }
 
     // Whether this may be the page of the replica.
+    #[tactic(auto, unfolding(crate::specs::Rules::keeps_rules))]
     pub fn keeps_rules(&self, replica: u8) -> bool
         ensures test { result ≡ keeps_rules replica self.now }
         ensures rules { IsTrue result ↔ PageRules replica self.now }
-    {
-        self.passes(replica)
-    }
-
-    fn passes(&self, replica: u8) -> bool
-        ensures { result ≡ keeps_rules replica self.now }
     {
         self.mode
             .fits(self.component.is_some(), self.recorded.is_some())
