@@ -13,6 +13,7 @@ fn main(rt: HostRuntime) -> io::Result<()> {
     let mut output = BufWriter::new(rt.alloc(), rt.stdout())?;
     let mut hall = Hall::new(rt);
     let mut line = Vec::new(rt.alloc());
+    // A loop is proved to end, so the lines are counted by a range; no script has as many.
     for number in 1..u64::MAX {
         line.clear();
         if input.read_until(b'\n', &mut line)? == 0 {

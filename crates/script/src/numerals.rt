@@ -6,7 +6,7 @@ ghost use Rattle.script.specs.Numerals.{one_more, reads, below};
 fn one_more(value: u64, byte: u8) -> Option<u64>
     ensures { result ≡ one_more value byte }
 {
-    if byte < b'0' || byte > b'9' {
+    if !byte.is_ascii_digit() {
         return None;
     }
     value.checked_mul(10)?.checked_add(u64::from(byte - b'0'))
