@@ -1,5 +1,8 @@
 -- Calls made one after another are a run. Assumes nothing.
-use Rattle.std.proofs.Common.{◌≡◌, ℕ, Bool, List, [], ◌∷◌, ◌++◌, map, refl, ap, ◌∙◌}
+use Rattle.std.proofs.Common.{◌≡◌, ℕ, ◌+◌, ◌<◌, Bool, List, [], ◌∷◌, ◌++◌, length, take, map, Result, sym, refl, ap, ◌∙◌, slice_index_or}
+use Rattle.std.proofs.lemmas.List.{take_more}
+use Rattle.quorum.specs.declared.fault.Failure.{Failure}
+use Rattle.manager.specs.declared.answer.Answer.{Answer}
 use Rattle.runs.proofs.Runs.{run_step, end_step}
 use Rattle.runs.specs.Runs.{Taken}
 use Rattle.runs.specs.Steps.{Step}
@@ -14,10 +17,14 @@ calls_more : (ts : List Taken) (t : Taken) → map (λ x. x.call) (ts ++ t ∷ [
 calls_more [] t = refl
 calls_more (x ∷ ts) t = ap (λ cs. x.call ∷ cs) (calls_more ts t)
 
-pub ran_more : (f : ℕ → ℕ → Bool) (w v : World) (calls : List Call) (t : Taken) → Ran f w v calls → Step f v t.call t.answer t.world → Ran f w t.world (calls ++ t.call ∷ [])
-ran_more f w v calls t a s = record {
-  takens = a.takens ++ t ∷ [];
-  calls_are = calls_more a.takens t ∙ ap (λ cs. cs ++ t.call ∷ []) a.calls_are;
-  run = run_step f w a.takens v t a.run a.ends s;
-  ends = end_step w a.takens t;
-}
+-- one call more
+pub ran_more : (f : ℕ → ℕ → Bool) (w v u : World) (calls : List Call) (i : ℕ) (d : Call) (r : Result Answer Failure) → i < length calls →
+    Ran f w v (take i calls) → Step f v (slice_index_or calls i d) r u → Ran f w u (take (i + 1) calls)
+ran_more f w v u calls i d r l a s =
+    let t : Taken = record { call = slice_index_or calls i d; answer = r; world = u } in
+    record {
+      takens = a.takens ++ t ∷ [];
+      calls_are = calls_more a.takens t ∙ ap (λ cs. cs ++ t.call ∷ []) a.calls_are ∙ sym (take_more calls i d l);
+      run = run_step f w a.takens v t a.run a.ends s;
+      ends = end_step w a.takens t;
+    }

@@ -1,13 +1,11 @@
 -- Sixteen pages, one of them replaced; the pages of a founded floor. Assumes nothing.
-use Rattle.std.proofs.Common.{◌≡◌, ℕ, ◌+◌, ◌<◌, ◌≤◌, Bool, true, false, cond, not, ◌||◌, eqb, ltb, List, length, set, is_some, Some, None, Ok, Option, sym, refl, ap, ◌∙◌, ⊎_elim, arith}
+use Rattle.std.proofs.Common.{◌≡◌, ℕ, ◌+◌, ◌<◌, ◌≤◌, true, false, cond, not, ◌||◌, eqb, ltb, List, length, set, is_some, Some, None, Ok, Option, refl, ap, ◌∙◌, ⊎_elim, arith}
 use Rattle.std.proofs.lemmas.List.{get_or-set_same, get_or-set_other}
-use Rattle.std.proofs.lemmas.Bool.{cases_eq, and_parts, eqb-true, false≢true, not-false}
+use Rattle.std.proofs.lemmas.Bool.{cases_eq, and_parts, or_parts, eqb-true, false≢true, not-false}
 use Rattle.std.proofs.lemmas.Bool.Decides.{nat_tests}
 use Rattle.quorum.proofs.Below.{any_none}
-use Rattle.std.specs.Option.{option_or}
 use Rattle.quorum.specs.Below.{any}
 use Rattle.quorum.specs.Members.{has}
-use Rattle.quorum.specs.declared.fault.Fault.{Fault}
 use Rattle.quorum.specs.declared.fault.Reason.TheVariants.{BadFounding, NotFresh}
 use Rattle.stores.specs.declared.page.Mode.{Mode}
 use Rattle.stores.specs.declared.page.Mode.TheVariants.{Waiting, Joining, Normal, Reconfiguration}
@@ -15,8 +13,9 @@ use Rattle.stores.specs.Kept.{fresh, page_at}
 use Rattle.stores.specs.Rules.{keeps_rules}
 use Rattle.stores.specs.declared.page.Page.{Page}
 use Rattle.stores.specs.declared.view.View.{View}
-use Rattle.runs.specs.Founding.{is_waiting, is_fresh, nameless, nameless_if, founding_refusal, founding_page, FoundedPages}
-use Rattle.quorum.specs.Faults.{allowed}
+use Rattle.runs.specs.Founding.{is_waiting, is_fresh, nameless, founding_refusal, founding_page, FoundedPages}
+use Rattle.quorum.specs.Faults.{refused_if, allowed}
+use Rattle.quorum.proofs.Refused.{neither, not_refused, was_allowed}
 
 -- a member's page keeps the rules
 pub founding_keeps : (v : View) (r : ℕ) → has v.set.0 r ≡ true → v.number.0 ≤ 1000000000 → keeps_rules r (founding_page v) ≡ true
@@ -69,29 +68,13 @@ fresh_from p e =
     let recorded = absent p.recorded d.1 in
     λ i. record { mode = mode i; top = record { 0 = top i }; mark = mark i; component = component i; recorded = recorded i }
 
-allowed_none : (o : Option Fault) (u : Unit) → Ok u ≡ allowed o → o ≡ None
-allowed_none None u e = refl
-allowed_none (Some f) u e = absurd (let z : ◌≡◌ {A = ℕ} 0 1 = cc in omega arith)
-
-none_if : (b : Bool) (x : Fault) → cond b (Some x) None ≡ None → b ≡ false
-none_if false x e = refl
-none_if true x e = absurd (let z : ◌≡◌ {A = ℕ} 0 1 = cc in omega arith)
-
-second_none : (b : Bool) (x : Fault) (o : Option Fault) → option_or (cond b (Some x) None) o ≡ None → o ≡ None
-second_none false x o e = e
-second_none true x o e = absurd (let z : ◌≡◌ {A = ℕ} 0 1 = cc in omega arith)
-
-or_none : (a b : Bool) → (a || b) ≡ false → (a ≡ false) × (b ≡ false)
-or_none false b e = (refl, e)
-or_none true b e = absurd (false≢true (sym e))
-
 -- an accepted founding found every page fresh
 pub accepted_fresh : (v : View) (pages : List Page) (places : ℕ) (u : Unit) → Ok u ≡ allowed (founding_refusal v pages places) → (r : ℕ) → r < 16 → page_at pages r ≡ fresh
 accepted_fresh v pages places u e r l =
     let bad = eqb v.set.0 0 || ltb 1000000000 v.number.0 in
     let used = any (λ q. not (is_fresh (page_at pages q))) 16 in
-    let none = second_none bad (nameless BadFounding) (nameless_if (ltb places 16 || used) NotFresh) (allowed_none (founding_refusal v pages places) u e) in
-    let unused = (or_none (ltb places 16) used (none_if (ltb places 16 || used) (nameless NotFresh) none)).1 in
+    let none = neither (refused_if bad (nameless BadFounding)) (refused_if (ltb places 16 || used) (nameless NotFresh)) (was_allowed _ u e) in
+    let unused = (or_parts (ltb places 16) used (not_refused _ (nameless NotFresh) none.1)).1 in
     fresh_from (page_at pages r) (not-false (is_fresh (page_at pages r)) (any_none (λ q. not (is_fresh (page_at pages q))) 16 unused r l))
 
 -- once all members are written, on pages that were fresh

@@ -1,80 +1,106 @@
 -- From the floor's and the manager's answers to what a call does. Assumes nothing.
-use Rattle.std.proofs.Common.{◌≡◌, ℕ, ◌<◌, Bool, true, false, cond, ◌&&◌, eqb, leb, ◌⊎◌, [], ◌++◌, length, set, is_ok, IfOk, Some, None, Ok, Err, Option, Result, sym, refl, ap, ◌∙◌, subst, ⊎_elim, append-nil, arith, MatchResult}
+use Rattle.std.proofs.Common.{◌≡◌, ℕ, ◌<◌, Bool, false, ◌&&◌, eqb, leb, length, IfOk, Some, None, Ok, Err, Option, Result, sym, refl, ap, ap₂, ◌∙◌, ⊎_elim, OnOk, OnErr, arith}
 use Rattle.std.proofs.lemmas.Bool.{eq-eqb, ne_eqb}
+use Rattle.std.proofs.lemmas.List.{set-set, set-get_or}
 use Rattle.std.specs.Option.{option_or}
 use Rattle.quorum.specs.declared.fault.Failure.{Failure}
 use Rattle.quorum.specs.declared.fault.Failure.TheVariants.{Refused, NoMemory}
 use Rattle.quorum.specs.declared.fault.Fault.{Fault}
-use Rattle.quorum.specs.declared.fault.Reason.TheVariants.{PostFull, NoSuchMessage}
-use Rattle.manager.specs.Calls.{answer_of, viewed, lost_at, started_at, stopped_at, call_refusal, unless_refused, empty_row}
+use Rattle.quorum.specs.declared.fault.Reason.TheVariants.{PostFull}
+use Rattle.quorum.specs.Faults.{refused_if}
+use Rattle.manager.specs.Calls.{answer_of, stopped_at, call_refusal, unless_refused, empty_row}
 use Rattle.manager.specs.Effects.{Effect, effect}
 use Rattle.manager.specs.declared.answer.Answer.{Answer}
 use Rattle.manager.specs.declared.need.Need.{Need}
 use Rattle.laws.specs.Laws.{Keeps}
-use Rattle.laws.proofs.Calls.{viewed_keeps, delivered_keeps, lost_keeps, started_keeps}
+use Rattle.laws.proofs.Calls.{viewed_keeps, delivered_keeps, lost_keeps, started_keeps, stopped_keeps}
 use Rattle.rows.specs.declared.message.Message.{Message}
 use Rattle.rows.specs.declared.message.Posts.TheVariants.{Nothing}
 use Rattle.rows.specs.declared.row.Row.{Row}
-use Rattle.runs.specs.World.{World, replica_of, floor_refusal, unless, message_at, up_test, down_test, loss_test, delivery_test, page_of, row_of, delivered_or_not, asked, full, placed, ruled, listed, Posted, unit_of, Same, Broken, Did}
+use Rattle.runs.specs.World.{World, replica_of, floor_refusal, unless, message_at, up_test, down_test, loss_test, delivery_test, page_of, row_of, delivered_or_not, asked, full, placed, ruled, Posted, unit_of, Same, Broken, Did}
 use Rattle.runs.specs.declared.work.Work.{Work}
 use Rattle.runs.specs.declared.work.Work.TheVariants as works
-use Rattle.stores.specs.Kept.{Spent, no_place}
+use Rattle.stores.specs.Kept.{no_place}
 use Rattle.stores.specs.declared.page.Page.{Page}
-use Rattle.floor.specs.Tasks.{managed, task_unless, delivery_task, tasked, wants_room, as_failure}
+use Rattle.floor.specs.Parts.{crowded, Ready, Stored, PutBack}
+use Rattle.floor.specs.Tasks.{managed, lent, given, delivery_task, tasked, wants_room}
+use Rattle.floor.specs.declared.accepted.Accepted.{Accepted}
 use Rattle.floor.specs.declared.task.Task.{Task}
 use Rattle.floor.specs.declared.task.Task.TheVariants as tasks
-use Rattle.quorum.specs.Faults.{allowed}
 
 -- ---- the floor's part
-task_refuses : (o : Option Fault) (t : Task) (x : Fault) (rest : Result Effect Fault) → Err x ≡ task_unless o t → unless o rest ≡ Err x
-task_refuses None t x rest e = absurd (let z : ◌≡◌ {A = ℕ} 0 1 = cc in omega arith)
-task_refuses (Some y) t x rest e = let same : y ≡ x = cc in ap (λ z. Err z) same
+unless_none : (o : Option Fault) (rest : Result Effect Fault) → o ≡ None → unless o rest ≡ rest
+unless_none None rest e = refl
+unless_none (Some x) rest e = cc
 
-task_allows : (o : Option Fault) (t u : Task) (rest : Result Effect Fault) → Ok u ≡ task_unless o t → (u ≡ t) × (unless o rest ≡ rest)
-task_allows None t u rest e = (cc, refl)
-task_allows (Some y) t u rest e = absurd (let z : ◌≡◌ {A = ℕ} 0 1 = cc in omega arith)
+pub given_ok : {A : Type 0} (o : Option Fault) (a b : A) → Ok b ≡ given o a → ((rest : Result Effect Fault) → unless o rest ≡ rest) × (b ≡ a)
+given_ok None a b e = (λ rest. refl, cc)
+given_ok (Some y) a b e = (λ rest. cc, cc)
+
+given_err : {A : Type 0} (o : Option Fault) (a : A) (x : Fault) (rest : Result Effect Fault) → Err x ≡ given o a → unless o rest ≡ Err x
+given_err None a x rest e = cc
+given_err (Some y) a x rest e = cc
 
 module _ (f : ℕ → ℕ → Bool) (w : World) where
   delivery_refuses : (r : ℕ) (o : Option Fault) (m : Option Message) (x : Fault) → Err x ≡ delivery_task r o m → unless o (delivered_or_not f w r m) ≡ Err x
-  delivery_refuses r (Some y) m x e = let same : y ≡ x = cc in ap (λ z. Err z) same
-  delivery_refuses r None None x e = let same : floor_refusal NoSuchMessage r ≡ x = cc in ap (λ z. Err z) same
-  delivery_refuses r None (Some m) x e = absurd (let z : ◌≡◌ {A = ℕ} 0 1 = cc in omega arith)
-
-  delivery_allows : (r : ℕ) (o : Option Fault) (m : Option Message) (t : Task) → Ok t ≡ delivery_task r o m →
-      unless o (delivered_or_not f w r m) ≡ managed f w.need r (page_of f w r) (row_of f w r) t
-  unfolding managed
-  delivery_allows r (Some y) m t e = absurd (let z : ◌≡◌ {A = ℕ} 0 1 = cc in omega arith)
-  delivery_allows r None None t e = absurd (let z : ◌≡◌ {A = ℕ} 0 1 = cc in omega arith)
-  delivery_allows r None (Some m) t e = let same : tasks.Deliver m ≡ t = cc in ap (managed f w.need r (page_of f w r) (row_of f w r)) same
+  delivery_refuses r (Some y) m x e = cc
+  delivery_refuses r None None x e = cc
+  delivery_refuses r None (Some m) x e = cc
 
   -- refused by the floor
-  asked_refused : (k : Work) (x : Fault) → Err x ≡ tasked w.rows w.post k → asked f w k ≡ Err x
-  asked_refused (works.View r h) x e = task_refuses (up_test w.rows r) (tasks.View h) x _ e
+  pub asked_refused : (k : Work) (x : Fault) → Err x ≡ tasked w.rows w.post k → asked f w k ≡ Err x
+  asked_refused (works.View r h) x e = given_err (up_test w.rows r) (r, tasks.View h) x _ e
   asked_refused (works.Deliver r i) x e = delivery_refuses r (delivery_test w.rows r (message_at w.post i)) (message_at w.post i) x e
-  asked_refused (works.Loss r q) x e = task_refuses (loss_test w.rows r q) (tasks.Loss q) x _ e
-  asked_refused (works.Start r) x e = task_refuses (down_test w.rows r) tasks.Start x _ e
+  asked_refused (works.Loss r q) x e = given_err (loss_test w.rows r q) (r, tasks.Loss q) x _ e
+  asked_refused (works.Start r) x e = given_err (down_test w.rows r) (r, tasks.Start) x _ e
 
-  -- handed to the manager
-  pub asked_managed : (k : Work) (t : Task) → Ok t ≡ tasked w.rows w.post k → asked f w k ≡ managed f w.need (replica_of k) (page_of f w (replica_of k)) (row_of f w (replica_of k)) t
-  unfolding managed
-  asked_managed (works.View r h) t e =
-      let a = task_allows (up_test w.rows r) (tasks.View h) t (viewed f w.need r (page_of f w r) (row_of f w r) h) e in
-      a.1 ∙ ap (managed f w.need r (page_of f w r) (row_of f w r)) (sym a.0)
-  asked_managed (works.Deliver r i) t e = delivery_allows r (delivery_test w.rows r (message_at w.post i)) (message_at w.post i) t e
-  asked_managed (works.Loss r q) t e =
-      let a = task_allows (loss_test w.rows r q) (tasks.Loss q) t (lost_at f w.need r (page_of f w r) (row_of f w r) q) e in
-      a.1 ∙ ap (managed f w.need r (page_of f w r) (row_of f w r)) (sym a.0)
-  asked_managed (works.Start r) t e =
-      let a = task_allows (down_test w.rows r) tasks.Start t (started_at r (page_of f w r) (row_of f w r)) e in
-      a.1 ∙ ap (managed f w.need r (page_of f w r) (row_of f w r)) (sym a.0)
+  -- what the manager makes of a task at a replica
+  abbrev managed_at : ℕ × Task → Result Effect Fault
+  managed_at p = managed f w.need p.0 (page_of f w p.0) (row_of f w p.0) p.1
 
+  delivery_allows : (r : ℕ) (o : Option Fault) (m : Option Message) (p : ℕ × Task) → Ok p ≡ delivery_task r o m →
+      (p.0 ≡ r) × (unless o (delivered_or_not f w r m) ≡ managed_at p)
+  delivery_allows r (Some y) m p e = (cc, cc)
+  delivery_allows r None None p e = (cc, cc)
+  delivery_allows r None (Some m) p e = let same : p ≡ (r, tasks.Deliver m) = cc in (ap (λ q. q.0) same, ap managed_at (sym same))
+
+  handed_at : (k : Work) (p : ℕ × Task) → Ok p ≡ tasked w.rows w.post k → (p.0 ≡ replica_of k) × (asked f w k ≡ managed_at p)
+  handed_at (works.View r h) p e =
+      let a = given_ok (up_test w.rows r) (r, tasks.View h) p e in (ap (λ q. q.0) a.1, a.0 _ ∙ ap managed_at (sym a.1))
+  handed_at (works.Deliver r i) p e = delivery_allows r (delivery_test w.rows r (message_at w.post i)) (message_at w.post i) p e
+  handed_at (works.Loss r l) p e =
+      let a = given_ok (loss_test w.rows r l) (r, tasks.Loss l) p e in (ap (λ q. q.0) a.1, a.0 _ ∙ ap managed_at (sym a.1))
+  handed_at (works.Start r) p e =
+      let a = given_ok (down_test w.rows r) (r, tasks.Start) p e in (ap (λ q. q.0) a.1, a.0 _ ∙ ap managed_at (sym a.1))
+
+  -- handed to the manager, at the replica r with its page p
+  pub handed : (k : Work) (r : ℕ) (t : Task) (p : Page) → Ok (r, t) ≡ tasked w.rows w.post k → p ≡ page_of f w r →
+      (r ≡ replica_of k) × (asked f w k ≡ lent f w.need w.rows r p t)
+  handed k r t p e page = let a = handed_at k (r, t) e in (a.0, a.1 ∙ ap (λ q. lent f w.need w.rows r q t) (sym page))
+
+-- ---- the manager's part
+pub managed_refused : (v : Result Effect Fault) (x : Fault) → Err x ≡ answer_of v → v ≡ Err x
+managed_refused (Ok e) x h = cc
+managed_refused (Err y) x h = cc
+
+pub managed_accepted : (v : Result Effect Fault) (a : Answer) → Ok a ≡ answer_of v → (e : Effect) × (v ≡ Ok e) × (a ≡ e.answer)
+managed_accepted (Ok e) a h = (e, refl, cc)
+managed_accepted (Err y) a h = absurd (cc)
+
+-- an accepted task leaves a page that keeps the rules
+pub managed_keeps : (f : ℕ → ℕ → Bool) (need : Need) (r : ℕ) (p : Page) (w : Row) (t : Task) (e : Effect) → managed f need r p w t ≡ Ok e → Keeps r e
+managed_keeps f need r p w (tasks.View h) e a = viewed_keeps f need r p w h e a
+managed_keeps f need r p w (tasks.Deliver m) e a = delivered_keeps f need r p w m e a
+managed_keeps f need r p w (tasks.Loss q) e a = lost_keeps f need r p w q e a
+managed_keeps f need r p w tasks.Start e a = started_keeps r p w e a
+managed_keeps f need r p w tasks.Stop e a = stopped_keeps r p w e a
+
+-- ---- the end of a call
+module _ (f : ℕ → ℕ → Bool) (w : World) where
   -- what the floor refuses is refused
   pub ruled_refused : (k : Work) (x : Fault) → asked f w k ≡ Err x → ruled f w k ≡ Err x
   unfolding ruled
   ruled_refused k x e = ap (placed f w k) e
-
-  pub floor_refuses : (k : Work) (x : Fault) → Err x ≡ tasked w.rows w.post k → ruled f w k ≡ Err x
-  floor_refuses k x e = ruled_refused k x (asked_refused k x e)
 
   full_is : (k : Work) → full f w k ≡ (wants_room k && leb 65535 (length w.post))
   full_is (works.View r h) = refl
@@ -84,126 +110,81 @@ module _ (f : ℕ → ℕ → Bool) (w : World) where
 
   -- the post's room, then the store's place
   last_refusal : Work → Bool → Option Fault
-  last_refusal k b = option_or (cond b (Some (floor_refusal PostFull (replica_of k))) None) (cond (eqb w.places 0) (Some (no_place (replica_of k))) None)
+  last_refusal k b = option_or (refused_if b (floor_refusal PostFull (replica_of k))) (refused_if (eqb w.places 0) (no_place (replica_of k)))
 
   ruled_by : (k : Work) (e : Effect) → asked f w k ≡ Ok e → ruled f w k ≡ unless (last_refusal k (wants_room k && leb 65535 (length w.post))) (Ok e)
   unfolding ruled last_refusal
   ruled_by k e a = ap (placed f w k) a ∙ ap (λ b. unless (last_refusal k b) (Ok e)) (full_is k)
 
-  last_none : (k : Work) (b : Bool) → b ≡ false → 0 < w.places → last_refusal k b ≡ None
+  -- refused for want of room, for want of a place, or not at all
+  full_refuses : (k : Work) (e : Effect) (b : Bool) (x : Fault) → Posted b w.places (replica_of k) (Err (Refused x)) → unless (last_refusal k b) (Ok e) ≡ Err x
   unfolding last_refusal
-  last_none k b e l = ap (λ c. last_refusal k c) e ∙ ap (λ c. cond c (Some (no_place (replica_of k))) None) (ne_eqb w.places 0 (omega arith))
+  full_refuses k e b x t = ⊎_elim (λ h. rw h.0 (ap (λ z. Err z) (sym h.1))) (λ h. rw (h.0, eq-eqb w.places 0 h.1) (ap (λ z. Err z) (sym h.2))) t
 
-  last_full : (k : Work) (b : Bool) → b ≡ true → last_refusal k b ≡ Some (floor_refusal PostFull (replica_of k))
+  none_refuses : (k : Work) (e : Effect) (b : Bool) → b ≡ false → 0 < w.places → unless (last_refusal k b) (Ok e) ≡ Ok e
   unfolding last_refusal
-  last_full k b e = ap (λ c. last_refusal k c) e
+  none_refuses k e b h l = rw (h, ne_eqb w.places 0 (omega arith)) refl
 
-  last_place : (k : Work) (b : Bool) → b ≡ false → w.places ≡ 0 → last_refusal k b ≡ Some (no_place (replica_of k))
-  unfolding last_refusal
-  last_place k b e l = ap (λ c. last_refusal k c) e ∙ ap (λ c. cond c (Some (no_place (replica_of k))) None) (eq-eqb w.places 0 l)
+module _ (f : ℕ → ℕ → Bool) (w u : World) (k : Work) (e : Effect) (a : Accepted) (accepted : asked f w k ≡ Ok e) (ready : Ready f w k e a u) where
+  crowd : crowded a u.post ≡ (wants_room k && leb 65535 (length w.post))
+  crowd = ap₂ (λ b ms. b && leb 65535 (length ms)) ready.limited_is ready.post_is
 
--- ---- the manager's part
-pub managed_refused : (v : Result Effect Fault) (x : Fault) → Err x ≡ answer_of v → v ≡ Err x
-managed_refused (Ok e) x h = absurd (let z : ◌≡◌ {A = ℕ} 0 1 = cc in omega arith)
-managed_refused (Err y) x h = let same : y ≡ x = cc in ap (λ z. Err z) same
+  refuses : (x : Fault) → Posted (crowded a u.post) u.places a.kept.replica (Err (Refused x)) → ruled f w k ≡ Err x
+  refuses x t = ruled_by f w k e accepted ∙ full_refuses f w k e _ x (rw (crowd, ready.places_are, ready.replica_is) at t)
 
-pub managed_accepted : (v : Result Effect Fault) (a : Answer) → Ok a ≡ answer_of v → (e : Effect) × (v ≡ Ok e) × (a ≡ e.answer)
-managed_accepted (Ok e) a h = (e, refl, cc)
-managed_accepted (Err y) a h = absurd (let z : ◌≡◌ {A = ℕ} 0 1 = cc in omega arith)
+  allows : Posted (crowded a u.post) u.places a.kept.replica (Ok tt) → ruled f w k ≡ Ok e
+  allows t = ruled_by f w k e accepted ∙ none_refuses f w k e _ (sym crowd ∙ t.0) (rw ready.places_are at t.1)
 
--- an accepted task leaves a page that keeps the rules
-pub managed_keeps : (f : ℕ → ℕ → Bool) (need : Need) (r : ℕ) (p : Page) (w : Row) (t : Task) (e : Effect) → managed f need r p w t ≡ Ok e → Keeps r e
-unfolding managed
-managed_keeps f need r p w (tasks.View h) e a = viewed_keeps f need r p w h e a
-managed_keeps f need r p w (tasks.Deliver m) e a = delivered_keeps f need r p w m e a
-managed_keeps f need r p w (tasks.Loss q) e a = lost_keeps f need r p w q e a
-managed_keeps f need r p w tasks.Start e a = started_keeps r p w e a
+  -- refused after the manager's work, the row is as it was
+  same : (v : World) → PutBack u a v → Same w v
+  same v b = record {
+    pages_are = b.pages_are ∙ ready.pages_are;
+    rows_are =
+        cc (b.rows_are, ready.rows_are, set-set w.rows (replica_of k) e.row (row_of f w (replica_of k)), set-get_or w.rows (replica_of k) (empty_row false));
+    post_is = b.post_is ∙ ready.post_is;
+    places_are = b.places_are ∙ ready.places_are;
+    need_is = b.need_is ∙ ready.need_is;
+  }
 
--- ---- the end of a call
--- everything that `finish` says, of the world w before, the world v after and the manager's effect e
-pub record Finishes (w v : World) (r : ℕ) (limited : Bool) (e : Effect) (a : Result Answer Failure) : Type 0 where
-  pub tested : Posted (limited && leb 65535 (length w.post)) w.places r (unit_of a)
-  pub answered : IfOk a (λ b. b ≡ e.answer)
-  pub pages_are : v.pages ≡ cond (is_ok a) (set w.pages r e.page) w.pages
-  pub places_are : MatchResult a (λ _. Spent w.places v.places) (λ _. v.places ≡ w.places)
-  pub post_is : v.post ≡ w.post ++ cond (is_ok a) (listed e.answer.posts) []
-  pub rows_are : v.rows ≡ cond (is_ok a) (set w.rows r e.row) w.rows
-  pub need_is : v.need ≡ w.need
-
-abbrev Finished : World → World → Work → Effect → Result Answer Failure → Type 0
-Finished w v k e a = Finishes w v (replica_of k) (wants_room k) e a
-
-finishes_at : (w v : World) (k : Work) (r : ℕ) (limited : Bool) (e : Effect) (a : Result Answer Failure) → r ≡ replica_of k → limited ≡ wants_room k → Finishes w v r limited e a → Finished w v k e a
-finishes_at w v k r limited e a h l t = subst (λ (b : Bool). Finishes w v (replica_of k) b e a) l (subst (λ (q : ℕ). Finishes w v q limited e a) h t)
-
-module _ (f : ℕ → ℕ → Bool) (w v : World) (k : Work) (e : Effect) (accepted : asked f w k ≡ Ok e) where
-  same_from : (a : Failure) → Finished w v k e (Err a) → Same w v
-  same_from a t = record { pages_are = t.pages_are; rows_are = t.rows_are; post_is = t.post_is ∙ append-nil w.post; places_are = t.places_are; need_is = t.need_is }
-
-  refusing : (x : Fault) → Finished w v k e (Err (Refused x)) → ruled f w k ≡ Err x
-  refusing x t =
-      ⊎_elim
-      (λ h. ruled_by f w k e accepted ∙ ap (λ o. unless o (Ok e)) (last_full f w k _ h.0) ∙ ap (λ z. Err z) (sym h.1))
-      (λ h. ruled_by f w k e accepted ∙ ap (λ o. unless o (Ok e)) (last_place f w k _ h.0 h.1) ∙ ap (λ z. Err z) (sym h.2))
-      t.tested
-
-  finished_did : (a : Result Answer Failure) → Finished w v k e a → Did f w k a v
-  finished_did (Ok b) t = (
+  pub finished_did : (v : World) (r : Result Answer Failure) → Posted (crowded a u.post) u.places a.kept.replica (unit_of r) → IfOk r (λ b. b ≡ a.answer) →
+      OnOk r (Stored u a v) → OnErr r (PutBack u a v) → Did f w k r v
+  finished_did v (Ok b) t answer s _ = (
     e,
-    ruled_by f w k e accepted ∙ ap (λ o. unless o (Ok e)) (last_none f w k _ t.tested.0 t.tested.1),
-    t.answered,
-    record { pages_are = t.pages_are; rows_are = t.rows_are; post_is = t.post_is; places_are = t.places_are; need_is = t.need_is },
+    allows t,
+    answer ∙ ready.answer_is,
+    record {
+      pages_are = cc (s.pages_are, ready.pages_are, ready.replica_is, ready.page_is);
+      rows_are = s.rows_are ∙ ready.rows_are;
+      post_is = cc (s.post_is, ready.post_is, ready.answer_is);
+      places_are = rw ready.places_are at s.places_are;
+      need_is = s.need_is ∙ ready.need_is;
+    },
   )
-  finished_did (Err (Refused x)) t = (refusing x t, same_from (Refused x) t)
-  finished_did (Err NoMemory) t = same_from NoMemory t
+  finished_did v (Err (Refused x)) t _ _ b = (refuses x t, same v b)
+  finished_did v (Err NoMemory) t _ _ b = same v b
 
-  pub finishes_did : (r : ℕ) (limited : Bool) (a : Result Answer Failure) → r ≡ replica_of k → limited ≡ wants_room k → Finishes w v r limited e a → Did f w k a v
-  finishes_did r limited a h l t = finished_did a (finishes_at w v k r limited e a h l t)
+  pub break_refused : (v : World) (x : Fault) → Posted (crowded a u.post) u.places a.kept.replica (Err (Refused x)) → PutBack u a v → (ruled f w k ≡ Err x) × Same w v
+  break_refused v x t b = (refuses x t, same v b)
 
--- ---- the end of a call that is cut off
-pub record Breaks (w v : World) (r : ℕ) (limited : Bool) (e : Effect) (a : Result Unit Fault) : Type 0 where
-  pub tested : Posted (limited && leb 65535 (length w.post)) w.places r (as_failure a)
-  pub pages_are : MatchResult a (λ _. (v.pages ≡ w.pages) ⊎ (v.pages ≡ set w.pages r e.page)) (λ _. v.pages ≡ w.pages)
-  pub places_are : MatchResult a (λ _. Spent w.places v.places) (λ _. v.places ≡ w.places)
-  pub rows_are : v.rows ≡ cond (is_ok a) (set w.rows r (empty_row false)) w.rows
-  pub post_is : v.post ≡ w.post
-  pub need_is : v.need ≡ w.need
-
-breaks_at : (w v : World) (k : Work) (r : ℕ) (limited : Bool) (e : Effect) (a : Result Unit Fault) → r ≡ replica_of k → limited ≡ wants_room k → Breaks w v r limited e a → Breaks w v (replica_of k) (wants_room k) e a
-breaks_at w v k r limited e a h l t = subst (λ (b : Bool). Breaks w v (replica_of k) b e a) l (subst (λ (q : ℕ). Breaks w v q limited e a) h t)
-
-module _ (f : ℕ → ℕ → Bool) (w v : World) (k : Work) (e : Effect) (accepted : asked f w k ≡ Ok e) (r : ℕ) (limited : Bool) (at : r ≡ replica_of k) (room : limited ≡ wants_room k) where
-  pub break_refused : (x : Fault) → Breaks w v r limited e (Err x) → (ruled f w k ≡ Err x) × Same w v
-  break_refused x b =
-      let t = breaks_at w v k r limited e (Err x) at room b in (
-        ⊎_elim
-            (λ h. ruled_by f w k e accepted ∙ ap (λ o. unless o (Ok e)) (last_full f w k _ h.0) ∙ ap (λ z. Err z) (sym h.1))
-            (λ h. ruled_by f w k e accepted ∙ ap (λ o. unless o (Ok e)) (last_place f w k _ h.0 h.1) ∙ ap (λ z. Err z) (sym h.2))
-            t.tested,
-        record { pages_are = t.pages_are; rows_are = t.rows_are; post_is = t.post_is; places_are = t.places_are; need_is = t.need_is },
-      )
-
-  pub break_done : (u : Unit) → Breaks w v r limited e (Ok u) → (ruled f w k ≡ Ok e) × Broken w v (replica_of k) e.page
-  break_done u b =
-      let t = breaks_at w v k r limited e (Ok u) at room b in (
-        ruled_by f w k e accepted ∙ ap (λ o. unless o (Ok e)) (last_none f w k _ t.tested.0 t.tested.1),
-        record { pages_are = t.pages_are; rows_are = t.rows_are; post_is = t.post_is; places_are = t.places_are; need_is = t.need_is },
-      )
+  pub break_done : (v : World) → Posted (crowded a u.post) u.places a.kept.replica (Ok tt) → Broken u v a.kept.replica a.kept.page →
+      (ruled f w k ≡ Ok e) × Broken w v (replica_of k) e.page
+  break_done v t b = (
+    allows t,
+    record {
+      pages_are = rw (ready.pages_are, ready.replica_is, ready.page_is) at b.pages_are;
+      rows_are = cc (b.rows_are, ready.rows_are, ready.replica_is, set-set w.rows (replica_of k) e.row (empty_row false));
+      post_is = b.post_is ∙ ready.post_is;
+      places_are = rw ready.places_are at b.places_are;
+      need_is = b.need_is ∙ ready.need_is;
+    },
+  )
 
 -- ---- a stop
 refused_or_not : (o : Option Fault) (a e : Effect) → unless_refused o a ≡ Ok e → a ≡ e
 refused_or_not None a e h = cc
-refused_or_not (Some x) a e h = absurd (let z : ◌≡◌ {A = ℕ} 0 1 = cc in omega arith)
+refused_or_not (Some x) a e h = cc
 
 -- an accepted stop leaves the row down and empty
 pub stop_is : (r : ℕ) (p : Page) (w : Row) (e : Effect) → stopped_at r p w ≡ Ok e → effect p (empty_row false) Nothing ≡ e
 unfolding stopped_at
 stop_is r p w e h = refused_or_not (call_refusal r p w) (effect p (empty_row false) Nothing) e h
-
-pub test_refuses : (o : Option Fault) (x : Fault) (rest : Result Effect Fault) → Err x ≡ allowed o → unless o rest ≡ Err x
-test_refuses None x rest e = absurd (let z : ◌≡◌ {A = ℕ} 0 1 = cc in omega arith)
-test_refuses (Some y) x rest e = let same : y ≡ x = cc in ap (λ z. Err z) same
-
-pub test_allows : (o : Option Fault) (u : Unit) (rest : Result Effect Fault) → Ok u ≡ allowed o → unless o rest ≡ rest
-test_allows None u rest e = refl
-test_allows (Some y) u rest e = absurd (let z : ◌≡◌ {A = ℕ} 0 1 = cc in omega arith)

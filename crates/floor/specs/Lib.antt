@@ -1,2 +1,4 @@
+pub mod Worlds
 pub mod Tasks
+pub mod Parts
 pub mod Ran

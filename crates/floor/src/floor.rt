@@ -5,11 +5,12 @@ ghost use Rattle.runs.specs.Runs.{Founded};
 ghost use Rattle.stores.specs.Kept.{page_at};
 ghost use Rattle.runs.specs.Founding.{row_at, founding_refusal, Founding};
 ghost use Rattle.quorum.specs.Faults.{allowed};
+ghost use Rattle.floor.specs.Worlds.{world};
 
 use super::founding::{check_founding, founding_rows, write_founding};
 use lend::Table;
 use manager::Need;
-use quorum::{Fault, QuorumRule, ReplicaSet};
+use quorum::{Fault, QuorumRule, Replica, ReplicaSet};
 use rows::{Message, Row, Stage};
 use stores::{Breakable, Page, Store, View};
 
@@ -53,22 +54,16 @@ impl<R: QuorumRule + Copy, S: Breakable + Drop> Floor<R, S> {
     pub fn page(&self, replica: u8) -> Option<Page>
         ensures { result ≡ (if nat_lt replica 16 then Some (page_at (S.Store.pages self.now.store) replica) else None) }
     {
-        if replica < 16 {
-            Some(self.store.read(replica))
-        } else {
-            None
-        }
+        let replica = Replica::new(replica)?;
+        Some(self.store.read(replica))
     }
 
     // The row of a replica, if there is such a replica.
     pub fn row(&self, replica: u8) -> Option<Row>
         ensures { result ≡ (if nat_lt replica 16 then Some (row_at self.now.table.rows replica) else None) }
     {
-        if replica < 16 {
-            Some(*self.table.row(replica as usize))
-        } else {
-            None
-        }
+        let replica = Replica::new(replica)?;
+        Some(*self.table.row(replica.index()))
     }
 
     pub fn need(&self) -> Need
@@ -81,7 +76,7 @@ impl<R: QuorumRule + Copy, S: Breakable + Drop> Floor<R, S> {
     pub fn found(&mut self, post: &mut Vec<Message>, view: View, need: Need) -> Result<(), Fault>
         ensures answer { result ≡ allowed (founding_refusal view (S.Store.pages self.old.store) (S.Store.places self.old.store)) }
         ensures founded { OnOk result (Founding view need (S.Store.pages self.new.store) self.new.table.rows self.new.need post.new.items) }
-        ensures begins { OnOk result (Founded view (record { pages = S.Store.pages self.new.store; places = S.Store.places self.new.store; rows = self.new.table.rows; post = post.new.items; need = self.new.need })) }
+        ensures begins { OnOk result (Founded view (world S.Store.pages S.Store.places self.new post.new.items)) }
         ensures rule { self.new.rule ≡ self.old.rule }
         ensures kept { OnErr result ((self.new ≡ self.old) × (post.new ≡ post.old)) }
     {

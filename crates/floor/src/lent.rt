@@ -1,13 +1,13 @@
 // The manager's work on one row, which the table lends.
-ghost use Rattle.std.specs.Prelude.{◌≡◌, ◌<◌, slice_set};
+ghost use Rattle.std.specs.Prelude.{◌≡◌, slice_set};
 ghost use Rattle.manager.specs.Calls.{answer_of, page_left, row_left};
 ghost use Rattle.runs.specs.Founding.{row_at};
-ghost use Rattle.floor.specs.Tasks.{managed};
+ghost use Rattle.floor.specs.Tasks.{managed, lent};
 
 use super::floor::Floor;
 use super::task::Task;
 use manager::{Answer, Need};
-use quorum::{Fault, QuorumRule};
+use quorum::{Fault, QuorumRule, Replica};
 use rows::Row;
 use stores::{Breakable, Page};
 
@@ -29,21 +29,29 @@ fn manage<R: QuorumRule>(
         Task::Deliver(message) => manager::deliver(rule, need, replica, page, row, &message),
         Task::Loss(lost) => manager::lose(rule, need, replica, page, row, lost),
         Task::Start => manager::start(replica, page, row),
+        Task::Stop => manager::stop(replica, page, row),
     }
 }
 
 impl<R: QuorumRule + Copy, S: Breakable + Drop> Floor<R, S> {
     // The rule is copied out, and the table lends one row to the manager.
-    pub(crate) fn lend(&mut self, replica: u8, page: &mut Page, task: Task) -> Result<Answer, Fault>
-        requires { replica < 16 }
-        ensures answer { result ≡ answer_of (managed (R.QuorumRule.carries self.old.rule) self.old.need replica page.old (row_at self.old.table.rows replica) task) }
-        ensures page { page.new ≡ page_left page.old (managed (R.QuorumRule.carries self.old.rule) self.old.need replica page.old (row_at self.old.table.rows replica) task) }
-        ensures rows { self.new.table.rows ≡ slice_set self.old.table.rows replica (row_left (row_at self.old.table.rows replica) (managed (R.QuorumRule.carries self.old.rule) self.old.need replica page.old (row_at self.old.table.rows replica) task)) }
+    pub(crate) fn lend(
+        &mut self,
+        replica: Replica,
+        page: &mut Page,
+        task: Task,
+    ) -> Result<Answer, Fault>
+        ensures answer { result ≡ answer_of
+            (lent (R.QuorumRule.carries self.old.rule) self.old.need self.old.table.rows replica page.old task) }
+        ensures page { page.new ≡ page_left page.old
+            (lent (R.QuorumRule.carries self.old.rule) self.old.need self.old.table.rows replica page.old task) }
+        ensures rows { self.new.table.rows ≡ slice_set self.old.table.rows replica (row_left (row_at self.old.table.rows replica)
+            (lent (R.QuorumRule.carries self.old.rule) self.old.need self.old.table.rows replica page.old task)) }
         ensures rest { (self.new.rule ≡ self.old.rule) × (self.new.store ≡ self.old.store) × (self.new.need ≡ self.old.need) }
     {
         let rule = self.rule;
         let need = self.need;
-        let row = self.table.row_mut(replica as usize);
-        manage(&rule, need, replica, page, row, task)
+        let row = self.table.row_mut(replica.index());
+        manage(&rule, need, replica.number(), page, row, task)
     }
 }

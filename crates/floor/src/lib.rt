@@ -1,6 +1,7 @@
 // The floor: sixteen replicas over one store.
 #![tactic(auto)]
 
+mod accepted;
 mod apply;
 mod calls;
 mod cut;

@@ -1,10 +1,10 @@
 // A store that counts its places down, to show that the promises of a store are not those of held pages alone.
-ghost use Rattle.std.specs.Prelude.{◌≡◌, length, replicate, IfOk};
-ghost use Rattle.stores.specs.Kept.{fresh, no_place, Sound};
+ghost use Rattle.std.specs.Prelude.{◌≡◌, length, replicate, IfOk, if◌then◌else◌, nat_le};
+ghost use Rattle.stores.specs.Kept.{fresh, Sound};
 
-use quorum::{Fault, Layer, Reason};
+use quorum::{Fault, Layer, Reason, Replica, refuse_if};
 use std::alloc::{AllocError, Global};
-use stores::{Breakable, Page, Store};
+use stores::{Breakable, KeptPage, Page, Store};
 
 // Sixteen pages on the heap, and how many writes are left.
 #[derive(Drop)]
@@ -25,16 +25,6 @@ impl CountedPages {
     }
 }
 
-fn no_place(replica: u8) -> Fault
-    ensures { result ≡ no_place replica }
-{
-    Fault {
-        reason: Reason::NoPlace,
-        replica: Some(replica),
-        layer: Layer::Store,
-    }
-}
-
 impl Store for CountedPages {
     ghost pages = { λ s. s.pages.items };
 
@@ -44,8 +34,8 @@ impl Store for CountedPages {
 
     ghost sound = { λ s. s.sound };
 
-    fn read(&self, replica: u8) -> Page {
-        self.pages[replica as usize]
+    fn read(&self, replica: Replica) -> Page {
+        self.pages[replica.index()]
     }
 
     fn places(&self) -> u32 {
@@ -53,27 +43,27 @@ impl Store for CountedPages {
     }
 
     // Every write uses a place.
-    fn write(&mut self, replica: u8, page: Page) -> Result<(), Fault> {
-        if self.left == 0 {
-            return Err(no_place(replica));
-        }
+    fn write(&mut self, kept: KeptPage) -> Result<(), Fault> {
+        let no_place = Reason::NoPlace.at(kept.replica.number(), Layer::Store);
+        refuse_if(self.left == 0, no_place)?;
         self.left -= 1;
-        self.pages[replica as usize] = page;
+        self.pages[kept.replica.index()] = kept.page;
         Ok(())
     }
 }
 
 impl Breakable for CountedPages {
+    ghost leaves = { λ n old new p. p ≡ (if nat_le 8 n then new else old) };
+
     // A write takes eight byte-writes, and has its place from the fourth on.
-    fn cut(&mut self, replica: u8, page: Page, n: u64) -> Result<(), Fault> {
-        if self.left == 0 {
-            return Err(no_place(replica));
-        }
+    fn cut(&mut self, kept: KeptPage, n: u64) -> Result<(), Fault> {
+        let no_place = Reason::NoPlace.at(kept.replica.number(), Layer::Store);
+        refuse_if(self.left == 0, no_place)?;
         if n >= 4 {
             self.left -= 1;
         }
         if n >= 8 {
-            self.pages[replica as usize] = page;
+            self.pages[kept.replica.index()] = kept.page;
         }
         Ok(())
     }

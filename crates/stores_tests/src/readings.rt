@@ -1,12 +1,20 @@
 // What is read after writes and cuts, by held pages and by a store that counts its places down.
 use super::counted::CountedPages;
 use super::pages::{page, view};
+use quorum::Replica;
 use std::test::Fail;
-use stores::{Breakable, HeldPages, Mode, Page, Store, Writing, carry_out, carry_out_held};
+use stores::{
+    Breakable, HeldPages, KeptPage, Mode, Page, Store, Writing, carry_out, carry_out_held,
+};
 
 // A page of replica 1, 2 or 3, told apart by its number.
 fn normal(number: u32) -> Page {
     page(Mode::Normal, Some(number), Some(view(number)), None)
+}
+
+// What is read at a replica, if there is such a replica.
+fn read<S: Store>(store: &S, replica: u8) -> Option<Page> {
+    Some(store.read(Replica::new(replica)?))
 }
 
 fn write(replica: u8, number: u32) -> Writing {
@@ -37,10 +45,10 @@ fn held_pages(rt: HostRuntime) {
         cut(3, 10, u64::MAX),
     ];
     assert_eq!(rt; carry_out(&mut store, &writings), 6);
-    assert_eq!(rt; store.read(0), Page::fresh());
-    assert_eq!(rt; store.read(1), normal(7));
-    assert_eq!(rt; store.read(2), normal(8));
-    assert_eq!(rt; store.read(3), normal(10));
+    assert_eq!(rt; read(&store, 0), Some(Page::fresh()));
+    assert_eq!(rt; read(&store, 1), Some(normal(7)));
+    assert_eq!(rt; read(&store, 2), Some(normal(8)));
+    assert_eq!(rt; read(&store, 3), Some(normal(10)));
     assert_eq!(rt; store.places(), 65_535);
 }
 
@@ -52,9 +60,9 @@ fn kept_out(rt: HostRuntime) {
         carry_out_held(&mut store, &[write(1, 7), write(4, 7), write(2, 7)]),
         1
     );
-    assert_eq!(rt; store.read(1), normal(7));
-    assert_eq!(rt; store.read(4), Page::fresh());
-    assert_eq!(rt; store.read(2), Page::fresh());
+    assert_eq!(rt; read(&store, 1), Some(normal(7)));
+    assert_eq!(rt; read(&store, 4), Some(Page::fresh()));
+    assert_eq!(rt; read(&store, 2), Some(Page::fresh()));
     assert_eq!(rt; carry_out_held(&mut store, &[write(17, 7)]), 0);
 }
 
@@ -70,24 +78,27 @@ fn counted_down(rt: HostRuntime) -> Result<(), Fail> {
         write(3, 7),
     ];
     assert_eq!(rt; carry_out(&mut store, &writings), 4);
-    assert_eq!(rt; store.read(1), normal(7));
-    assert_eq!(rt; store.read(2), normal(7));
-    assert_eq!(rt; store.read(3), Page::fresh());
+    assert_eq!(rt; read(&store, 1), Some(normal(7)));
+    assert_eq!(rt; read(&store, 2), Some(normal(7)));
+    assert_eq!(rt; read(&store, 3), Some(Page::fresh()));
     assert_eq!(rt; store.places(), 0);
     Ok(())
+}
+
+fn fresh_page(replica: u8) -> Result<KeptPage, Fail> {
+    let Some(kept) = KeptPage::new(replica, Page::fresh()) else {
+        return Err(Fail::new("a fresh page keeps the rules"));
+    };
+    Ok(kept)
 }
 
 #[test]
 fn no_place(rt: HostRuntime) -> Result<(), Fail> {
     let mut store = CountedPages::new(rt.alloc(), 0)?;
-    let page = Page::fresh();
-    if !page.keeps_rules(5) {
-        return Err(Fail::new("a fresh page keeps the rules"));
-    }
-    let Err(whole) = store.write(5, page) else {
+    let Err(whole) = store.write(fresh_page(5)?) else {
         return Err(Fail::new("a write has no place"));
     };
-    let Err(cut) = store.cut(5, page, 0) else {
+    let Err(cut) = store.cut(fresh_page(5)?, 0) else {
         return Err(Fail::new("a cut has no place"));
     };
     let text = format!(in rt.alloc(); "{whole}; {cut}")?;

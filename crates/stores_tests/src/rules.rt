@@ -1,6 +1,6 @@
 // Who carries what, and how sets and faults are written.
 use quorum::{
-    CountRule, Failure, Fault, Layer, QuorumRule, Reason, ReplicaSet, WeightRule, meeting,
+    CountRule, Failure, Layer, QuorumRule, Reason, Replica, ReplicaSet, WeightRule, meeting,
 };
 use std::test::Fail;
 
@@ -41,7 +41,7 @@ fn weight(rt: HostRuntime) -> Result<(), Fail> {
     assert!(rt; rule.carries(ReplicaSet(0b0010), set));
     assert!(rt; !rule.carries(ReplicaSet(0b1100), set));
     assert_eq!(rt;
-        meeting(&rule, ReplicaSet(0b0110), ReplicaSet(0b1010), set),
+        meeting(&rule, ReplicaSet(0b0110), ReplicaSet(0b1010), set).map(Replica::number),
         Some(1)
     );
     let Err(fault) = WeightRule::new([1, 5, 1, 1, 1, 1, 1, 1, 1, 1, 1, 1, 1, 1, 1, 0]) else {
@@ -54,12 +54,7 @@ fn weight(rt: HostRuntime) -> Result<(), Fail> {
 
 #[test]
 fn texts(rt: HostRuntime) -> Result<(), Fail> {
-    let fault = Fault {
-        reason: Reason::StampNotAbove,
-        replica: Some(1),
-        layer: Layer::Manager,
-    };
-    let refused = Failure::Refused(fault);
+    let refused = Failure::Refused(Reason::StampNotAbove.at(1, Layer::Manager));
     let no_memory = Failure::NoMemory;
     let nobody = ReplicaSet::EMPTY;
     let some = ReplicaSet(0b1000_0000_0000_0101);

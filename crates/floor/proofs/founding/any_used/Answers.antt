@@ -1,9 +1,13 @@
-use Rattle.std.proofs.Common.{sym, rules}
-use Rattle.quorum.proofs.Below.{any_from, any_none_from}
+use Rattle.std.proofs.Common.{not, rules, ◌∙◌}
+use Rattle.std.proofs.lemmas.Iterator.{YieldsList-from_slice}
+use Rattle.std.proofs.lemmas.Iterator.Search.{any_from_yields_List}
+use Rattle.quorum.proofs.Below.{list_any-everybody}
+use Rattle.quorum.specs.Members.{everybody}
+use Rattle.stores.specs.Kept.{page_at}
+use Rattle.runs.specs.Founding.{is_fresh}
 use Rattle.floor.proofs.founding.any_used.Goals as goal
 
-pub returns-then-not-is_fresh : goal.returns-then-not-is_fresh
-returns-then-not-is_fresh g c = sym (any_from _ 16 c.loop-replica.replica (search rules) (search rules))
-
 pub returns : goal.returns
-returns g c = sym (any_none_from _ 16 (λ k l. c.loop-replica.invariant k (search rules)))
+returns g c =
+    any_from_yields_List (λ r. not (is_fresh (page_at (g.S.Store.pages c.args.store.now) r))) _ _ _ c.any.ensures.ran (YieldsList-from_slice everybody cc) (λ x b q k. search rules) ∙
+    list_any-everybody _

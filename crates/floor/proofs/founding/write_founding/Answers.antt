@@ -1,19 +1,18 @@
-use Rattle.std.proofs.Common.{◌≡◌, ◌+◌, ◌≤◌, true, false, List, set, sym, ap, ◌∙◌, subst, arith, rules}
+use Rattle.std.proofs.Common.{◌≡◌, ◌+◌, ◌≤◌, true, false, List, set, sym, ap, ap₂, ◌∙◌, subst, arith, slice_index_or}
 use Rattle.quorum.specs.Members.{has}
+use Rattle.quorum.proofs.Below.{everybody_at}
 use Rattle.stores.specs.Rules.{keeps_rules}
 use Rattle.stores.specs.declared.page.Page.{Page}
-use Rattle.runs.specs.Founding.{FoundedPages}
+use Rattle.runs.specs.Founding.{founding_page, FoundedPages}
 use Rattle.floor.proofs.Pages.{founding_keeps, founded_none, founded_write, founded_skip}
 use Rattle.floor.proofs.founding.write_founding.Goals as goal
 use Rattle.floor.proofs.founding.write_founding.Goals.{then-contains+in_ok-write, else-contains}
 
-pub write-requires : goal.write-requires
-write-requires g c =
-    let keeps = founding_keeps c.args.view c.loop-replica.replica (search rules) c.requires.number in
-    record {
-      within = search rules;
-      kept = subst (λ (p : Page). keeps_rules c.loop-replica.replica p ≡ true) (sym c.founding_page.ensures) keeps;
-    }
+pub invariant_of-write : goal.invariant_of-write
+invariant_of-write g c =
+    let keeps : keeps_rules c.number.result (founding_page c.args.view) ≡ true =
+    founding_keeps c.args.view c.number.result (sym c.contains.ensures.test ∙ c.if-contains.true) c.requires.number in
+    record { keeps = cc (c.number.ensures.value, c.founding_page-page.ensures, keeps) }
 
 pub loop-replica-init : goal.loop-replica-init
 loop-replica-init g c = (omega (arith, c.requires.places), founded_none c.args.view (g.S.Store.pages c.args.store.now))
@@ -21,18 +20,22 @@ loop-replica-init g c = (omega (arith, c.requires.places), founded_none c.args.v
 pub loop-replica-preserved : goal.loop-replica-preserved
 loop-replica-preserved g c =
     let v = c.args.view in
-    let k = c.loop-replica.replica in
+    let k = c.loop-replica.replica-index in
     let before = g.S.Store.pages c.args.store.now in
+    let now = g.S.Store.pages c.loop-replica.store in
     let Done : g.row.S.Denot → Type 0 = λ s. (16 ≤ g.S.Store.places s + (k + 1)) × FoundedPages v before (k + 1) (g.S.Store.pages s) in
+    let place : slice_index_or c.all-replica-items.result k c.replica-item.result ≡ k =
+    ap (λ xs. slice_index_or xs k c.replica-item.result) c.all-replica-items.ensures ∙ everybody_at k c.replica-item.result c.loop-replica-test.true in
+    let at = c.number.ensures.value ∙ place in
     elim c.if-contains.branch [
       | then-contains+in_ok-write w ↦
           let wrote = w.in_ok-write.ensures in
-          let member : has v.set.0 k ≡ true = sym c.contains.ensures.test ∙ w.if-contains.true in
-          let pages = founded_write v before (g.S.Store.pages c.loop-replica.store) k (g.met.S.Store.sixteen c.loop-replica.store) c.loop-replica-test.true member c.loop-replica.invariant.1 in
-          let same = wrote.0 ∙ ap (λ p. set (g.S.Store.pages c.loop-replica.store) k p) w.founding_page.ensures in
+          let member : has v.set.0 k ≡ true = ap (has v.set.0) (sym at) ∙ sym c.contains.ensures.test ∙ w.if-contains.true in
+          let pages = founded_write v before now k (g.met.S.Store.sixteen c.loop-replica.store) c.loop-replica-test.true member c.loop-replica.invariant.1 in
+          let same = wrote.0 ∙ ap₂ (λ i p. set now i p) place w.founding_page-page.ensures in
           subst Done (sym w.store-is)
           (omega (arith, c.loop-replica.invariant.0, wrote.1.1), subst (λ (xs : List Page). FoundedPages v before (k + 1) xs) (sym same) pages)
       | else-contains w ↦
-          let outside : has v.set.0 k ≡ false = sym c.contains.ensures.test ∙ w.if-contains.false in
-          subst Done (sym w.store-is) (omega (arith, c.loop-replica.invariant.0), founded_skip v before (g.S.Store.pages c.loop-replica.store) k outside c.loop-replica.invariant.1)
+          let outside : has v.set.0 k ≡ false = ap (has v.set.0) (sym at) ∙ sym c.contains.ensures.test ∙ w.if-contains.false in
+          subst Done (sym w.store-is) (omega (arith, c.loop-replica.invariant.0), founded_skip v before now k outside c.loop-replica.invariant.1)
     ]

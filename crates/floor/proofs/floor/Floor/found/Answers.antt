@@ -1,6 +1,7 @@
 use Rattle.std.proofs.Common.{List, length, vec_items, sym, refl, ap, ◌∙◌, subst, rules}
 use Rattle.rows.specs.declared.row.Row.{Row}
-use Rattle.runs.proofs.Founded.{founded, was_allowed}
+use Rattle.quorum.proofs.Refused.{was_allowed}
+use Rattle.runs.proofs.Founded.{founded}
 use Rattle.runs.specs.Founding.{FoundedRows, Founding}
 use Rattle.runs.specs.World.{World}
 use Rattle.floor.proofs.Pages.{accepted_fresh, founded_all}

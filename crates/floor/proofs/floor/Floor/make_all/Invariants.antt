@@ -1,12 +1,13 @@
 use Rattle.std.proofs.Common.{◌≡◌, take, vec_items}
 use Rattle.floor.specs.Ran.{Ran}
+use Rattle.floor.specs.Worlds.{world}
 use Rattle.floor.proofs.floor.Floor.make_all.Given as goal
 
 -- the calls made so far are a run
-abbrev pub invariant-loop-i : goal.invariant-loop-i
-invariant-loop-i g l =
+abbrev pub invariant-loop-call : goal.invariant-loop-call
+invariant-loop-call g l =
     Ran (g.R.QuorumRule.carries l.initial.self.rule)
-    (record { pages = g.S.Store.pages l.initial.self.store; places = g.S.Store.places l.initial.self.store; rows = l.initial.self.table.rows; post = vec_items l.initial.post; need = l.initial.self.need })
-    (record { pages = g.S.Store.pages l.self.store; places = g.S.Store.places l.self.store; rows = l.self.table.rows; post = vec_items l.post; need = l.self.need })
-    (take l.i l.calls)
+    (world g.S.Store.pages g.S.Store.places l.initial.self (vec_items l.initial.post))
+    (world g.S.Store.pages g.S.Store.places l.self (vec_items l.post))
+    (take l.call-index l.calls)
     × (l.self.rule ≡ l.initial.self.rule)
