@@ -5,7 +5,7 @@ ghost use Rattle.stores.specs.Kept.{fresh};
 use super::show::End;
 use floor::Floor;
 use manager::{Answer, Need};
-use quorum::{ChosenRule, Failure, Fault, QuorumRule, WeightRule};
+use quorum::{ChosenRule, Failure, Fault, QuorumRule, Replica, WeightRule};
 use rows::{Message, Posts};
 use runs::Call;
 use script::{Command, parse};
@@ -136,7 +136,7 @@ impl Hall {
         self.installed
             .iter()
             .rev()
-            .take_while(|earlier| earlier.number.0 >= view.number.0)
+            .take_while(|earlier| earlier.number >= view.number)
             .any(|earlier| *earlier == view)
     }
 
@@ -181,8 +181,8 @@ impl Hall {
     // The sixteen replicas, the installed views, the post and the calls.
     pub fn account<W: Write>(&self, out: &mut W) -> io::Result<()> {
         writeln!(out, "account")?;
-        for replica in 0..16u8 {
-            self.account_of(replica, out)?;
+        for replica in Replica::all() {
+            self.account_of(replica.number(), out)?;
         }
         self.account_of_installed(out)?;
         writeln!(

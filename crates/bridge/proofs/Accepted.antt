@@ -1,9 +1,8 @@
 -- What an accepted call knows of its page, row and message. Assumes nothing.
-use Rattle.std.proofs.Common.{◌≡◌, ℕ, ◌+◌, ◌<◌, Bool, true, false, not, ◌&&◌, ◌||◌, eqb, leb, ◌≢◌, Some, None, Ok, Option, sym, refl, ap, ◌∙◌, subst, ⊎_elim, add-one, arith}
-use Rattle.std.proofs.lemmas.Bool.{cases_Bool, and_parts, or_parts, not-false, cond-true, leb-false, eqb-false}
+use Rattle.std.proofs.Common.{◌≡◌, ℕ, ◌+◌, ◌<◌, Bool, true, false, not, ◌&&◌, ◌||◌, eqb, leb, ◌≢◌, Some, None, Ok, Option, sym, refl, ap, ◌∙◌, subst, add-one, arith}
+use Rattle.std.proofs.lemmas.Bool.{and_parts, or_parts, not-false, leb-false, eqb-false}
 use Rattle.std.proofs.lemmas.Bool.Decides.{nat_tests}
 use Rattle.quorum.specs.declared.fault.Fault.{Fault}
-use Rattle.quorum.specs.declared.fault.Reason.{Reason}
 use Rattle.quorum.specs.declared.fault.Reason.TheVariants.{NoSuchReplica, WrongPower, ViewWithoutReplica, HeadOpen, StampNotAbove, OtherHead, WrongParty, AgainstRules}
 use Rattle.quorum.specs.Members.{has}
 use Rattle.stores.proofs.Kept.{rules_from}
@@ -21,7 +20,7 @@ use Rattle.rows.specs.declared.message.Message.{Message}
 use Rattle.rows.specs.declared.row.Row.{Row}
 use Rattle.rows.specs.declared.row.Stage.{Stage}
 use Rattle.rows.specs.declared.row.Stage.TheVariants.{Idle, Gathering, Confirming, Applying, Entering, Round}
-use Rattle.manager.specs.Calls.{refusal, first_of, all_keep, offer_refusal, call_refusal, head_of, is_open, announcement_refusal, view_refusal, message_refusal, head_refusal, delivery_refusal, lost_refusal, loss_refusal, unless_refused}
+use Rattle.manager.specs.Calls.{refusal, all_keep, offer_refusal, call_refusal, head_of, is_open, announcement_refusal, view_refusal, message_refusal, head_refusal, delivery_refusal, lost_refusal, loss_refusal, unless_refused}
 use Rattle.manager.specs.Effects.{Effect}
 use Rattle.safety.proofs.Marks.{none_some, false_true}
 use Rattle.bridge.proofs.Judged.{Staged, Confirms}

@@ -1,6 +1,6 @@
 -- What was let through was not refused. Assumes nothing.
 use Rattle.std.specs.Option.{option_or}
-use Rattle.std.proofs.Common.{◌≡◌, ℕ, ◌≤◌, ◌<◌, leb, Bool, true, false, Some, None, Ok, Option, refl, arith}
+use Rattle.std.proofs.Common.{◌≡◌, ℕ, ◌<◌, leb, Bool, true, false, Some, None, Ok, Option, refl, arith}
 use Rattle.std.proofs.lemmas.Bool.{leb-false}
 use Rattle.quorum.specs.declared.fault.Fault.{Fault}
 use Rattle.quorum.specs.Faults.{refused_if, allowed}

@@ -28,7 +28,7 @@ use Rattle.runs.specs.declared.work.Work.{Work}
 use Rattle.runs.specs.declared.work.Work.TheVariants.{View as Views, Deliver, Loss, Start}
 use Rattle.runs.proofs.Answered.{ok_inj, err_ok, let_through}
 use Rattle.quorum.specs.Faults.{refused_if}
-use Rattle.quorum.proofs.Refused.{neither, not_refused, one_of_sixteen}
+use Rattle.quorum.proofs.Refused.{neither, one_of_sixteen}
 use Rattle.runs.specs.World.{floor_refusal}
 
 -- ---- the message that is delivered stands in the post

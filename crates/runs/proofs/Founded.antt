@@ -1,25 +1,21 @@
 -- An accepted founding is one to run from. Assumes nothing.
-use Rattle.std.proofs.Common.{◌≡◌, ℕ, ◌^◌, ◌<◌, Bool, true, false, not, ◌||◌, eqb, ltb, List, length, Some, None, Ok, Option, sym, refl, ⊎_elim}
+use Rattle.std.proofs.Common.{◌≡◌, ℕ, ◌^◌, ◌<◌, true, false, not, ◌||◌, eqb, ltb, List, length, None, ⊎_elim}
 use Rattle.std.proofs.lemmas.Bool.{both_ways, cases_Bool, cases_lt, or_parts}
 use Rattle.quorum.proofs.Below.{any_some, any_none}
 use Rattle.quorum.proofs.Bits.{has_high}
 use Rattle.quorum.proofs.Sets.{no_members}
 use Rattle.quorum.specs.Below.{any}
 use Rattle.quorum.specs.Members.{has}
-use Rattle.quorum.specs.declared.fault.Fault.{Fault}
-use Rattle.quorum.specs.declared.fault.Reason.{Reason}
 use Rattle.quorum.specs.declared.fault.Reason.TheVariants.{BadFounding, NotFresh}
 use Rattle.manager.specs.declared.need.Need.{Need}
-use Rattle.safety.proofs.Marks.{none_some}
 use Rattle.stores.specs.Kept.{page_at}
 use Rattle.stores.specs.declared.page.Page.{Page}
 use Rattle.stores.specs.declared.view.View.{View}
 use Rattle.runs.specs.Founding.{is_fresh, founding_refusal, Founding}
 use Rattle.runs.specs.Runs.{Founded}
 use Rattle.runs.specs.World.{World}
-use Rattle.runs.proofs.Answered.{err_ok}
 use Rattle.quorum.specs.Faults.{refused_if}
-use Rattle.quorum.proofs.Refused.{neither, not_refused, one_of_sixteen}
+use Rattle.quorum.proofs.Refused.{neither, not_refused}
 use Rattle.runs.specs.Founding.{nameless}
 
 -- a set that is not empty has a member

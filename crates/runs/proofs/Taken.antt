@@ -35,7 +35,7 @@ use Rattle.runs.proofs.Answered.{ok_inj, err_ok, let_through}
 use Rattle.runs.proofs.Posts.{posted_by, report_posted}
 use Rattle.runs.proofs.Seen.{seen_at, world_of, Sixteen, both_here, both_others, row_here, row_others, seen_same, long_both, long_row}
 use Rattle.quorum.specs.Faults.{refused_if}
-use Rattle.quorum.proofs.Refused.{neither, not_refused, one_of_sixteen}
+use Rattle.quorum.proofs.Refused.{neither, one_of_sixteen}
 use Rattle.runs.specs.World.{floor_refusal}
 
 abbrev taken : Call → Result Answer Failure → World → Taken
