@@ -1,9 +1,8 @@
 -- What an accepted call knows of its page, row and message. Assumes nothing.
-use Rattle.std.proofs.Common.{◌≡◌, ℕ, ◌+◌, ◌<◌, Bool, true, false, not, ◌&&◌, ◌||◌, eqb, leb, ◌≢◌, Some, None, Ok, Option, sym, refl, ap, ◌∙◌, subst, ⊎_elim, add-one, arith}
-use Rattle.std.proofs.lemmas.Bool.{cases_Bool, and_parts, or_parts, not-false, cond-true, leb-false, eqb-false}
+use Rattle.std.proofs.Common.{◌≡◌, ℕ, ◌+◌, ◌<◌, Bool, true, false, not, ◌&&◌, ◌||◌, eqb, leb, ◌≢◌, Some, None, Ok, Option, sym, refl, ap, ◌∙◌, subst, add-one, arith}
+use Rattle.std.proofs.lemmas.Bool.{and_parts, or_parts, not-false, leb-false, eqb-false}
 use Rattle.std.proofs.lemmas.Bool.Decides.{nat_tests}
 use Rattle.quorum.specs.declared.fault.Fault.{Fault}
-use Rattle.quorum.specs.declared.fault.Reason.{Reason}
 use Rattle.quorum.specs.declared.fault.Reason.TheVariants.{NoSuchReplica, WrongPower, ViewWithoutReplica, HeadOpen, StampNotAbove, OtherHead, WrongParty, AgainstRules}
 use Rattle.quorum.specs.Members.{has}
 use Rattle.stores.proofs.Kept.{rules_from}
@@ -21,7 +20,7 @@ use Rattle.rows.specs.declared.message.Message.{Message}
 use Rattle.rows.specs.declared.row.Row.{Row}
 use Rattle.rows.specs.declared.row.Stage.{Stage}
 use Rattle.rows.specs.declared.row.Stage.TheVariants.{Idle, Gathering, Confirming, Applying, Entering, Round}
-use Rattle.manager.specs.Calls.{refusal, first_of, all_keep, offer_refusal, call_refusal, head_of, is_open, announcement_refusal, view_refusal, message_refusal, head_refusal, delivery_refusal, lost_refusal, loss_refusal, unless_refused}
+use Rattle.manager.specs.Calls.{refusal, all_keep, offer_refusal, call_refusal, head_of, is_open, announcement_refusal, view_refusal, message_refusal, head_refusal, delivery_refusal, lost_refusal, loss_refusal, unless_refused}
 use Rattle.manager.specs.Effects.{Effect}
 use Rattle.safety.proofs.Marks.{none_some, false_true}
 use Rattle.bridge.proofs.Judged.{Staged, Confirms}
@@ -78,16 +77,14 @@ recorded_is h (Some d) e = (d, refl)
 first_3 : (a b c : Bool) → (a && b && c) ≡ true → a ≡ true
 first_3 a b c h = (and_parts a b (and_parts (a && b) c h).0).0
 
+third_4 : (a b c d : Bool) → (a && b && c && d) ≡ true → (a ≡ true) × (c ≡ true)
+third_4 a b c d h = let k = (and_parts (a && b && c) d h).0 in (first_3 a b c k, (and_parts (a && b) c k).1)
+
 third_5 : (a b c d e : Bool) → (a && b && c && d && e) ≡ true → (a ≡ true) × (c ≡ true)
-third_5 a b c d e h =
-    let k = (and_parts (a && b && c) d (and_parts (a && b && c && d) e h).0).0 in
-    (first_3 a b c k, (and_parts (a && b) c k).1)
+third_5 a b c d e h = third_4 a b c d (and_parts (a && b && c && d) e h).0
 
 third_6 : (a b c d e f : Bool) → (a && b && c && d && e && f) ≡ true → (a ≡ true) × (c ≡ true)
 third_6 a b c d e f h = third_5 a b c d e (and_parts (a && b && c && d && e) f h).0
-
-first_7 : (a b c d e f g : Bool) → (a && b && c && d && e && f && g) ≡ true → a ≡ true
-first_7 a b c d e f g h = (third_6 a b c d e f (and_parts (a && b && c && d && e && f) g h).0).0
 
 confirms : (r : ℕ) (p : Page) (h : Head) → PageRules r p → p.mode ≡ Normal → under_head h p.recorded ≡ true → Confirms p
 confirms r p h f m u =
@@ -98,11 +95,11 @@ confirms r p h f m u =
 
 stage_staged : (r : ℕ) (p : Page) (up : Bool) (w : Row) (s : Stage) → PageRules r p → stage_keeps r p up w.lost s ≡ true → Staged p s
 stage_staged r p up w Idle f k = tt
-stage_staged r p up w (Gathering h g) f k = mode_normal p.mode (first_7 _ _ _ _ _ _ _ k)
-stage_staged r p up w (Confirming h g) f k = let t = third_5 _ _ _ _ _ k in confirms r p h f (mode_normal p.mode t.0) t.1
+stage_staged r p up w (Gathering h g) f k = mode_normal p.mode (third_6 _ _ _ _ _ _ k).0
+stage_staged r p up w (Confirming h g) f k = let t = third_4 _ _ _ _ k in confirms r p h f (mode_normal p.mode t.0) t.1
 stage_staged r p up w (Applying h a) f k = let m = mode_waiting p.mode (third_6 _ _ _ _ _ _ k).0 in (m, (f.waiting m).0)
 stage_staged r p up w (Entering h x) f k =
-    let t = third_6 _ _ _ _ _ _ k in
+    let t = third_5 _ _ _ _ _ k in
     let d = recorded_is h p.recorded t.1 in
     ((f.joining (mode_joining p.mode t.0)).0, d.0, d.1)
 stage_staged r p up w (Round h rs) f k = mode_reconfiguration p.mode (first_3 _ _ _ k)

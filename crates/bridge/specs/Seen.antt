@@ -46,10 +46,10 @@ seen_reference (Some x) = Some x.component
 -- how far the replica has come: of those heard only who recorded as a member
 abbrev pub seen_stage : Stage → Moves.Row
 seen_stage Idle = idle
-seen_stage (Gathering h g) = under h (gathering g.members.0)
-seen_stage (Confirming h g) = under h (confirming g.members.0)
+seen_stage (Gathering h g) = under h (gathering g.recorders.members.0)
+seen_stage (Confirming h g) = under h (confirming g.recorders.members.0)
 seen_stage (Applying h a) = under h (applying (seen_reference a.reference))
-seen_stage (Entering h e) = under h (entering e.reference.component e.members.0)
+seen_stage (Entering h e) = under h (entering e.reference.component e.recorders.members.0)
 seen_stage (Round h rs) = under h (round (seen_reports rs))
 
 -- a replica with this page and this row

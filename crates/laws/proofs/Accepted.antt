@@ -1,9 +1,8 @@
 -- What a call that is not refused has found. Assumes nothing.
-use Rattle.std.proofs.Common.{◌≡◌, ℕ, ◌<◌, Bool, true, false, not, ◌&&◌, ◌||◌, eqb, leb, Some, None, Ok, Option, sym, refl, ap, arith}
+use Rattle.std.proofs.Common.{◌≡◌, ℕ, ◌<◌, true, not, ◌&&◌, ◌||◌, eqb, leb, Some, None, Ok, Option, sym, refl, ap, arith}
 use Rattle.std.proofs.lemmas.Bool.{and_parts, not-false, leb-false}
 use Rattle.quorum.specs.Members.{has}
 use Rattle.quorum.specs.declared.fault.Fault.{Fault}
-use Rattle.quorum.specs.declared.fault.Reason.{Reason}
 use Rattle.quorum.specs.declared.fault.Reason.TheVariants.{NoSuchReplica, WrongPower, ViewWithoutReplica, HeadOpen, StampNotAbove, NumbersExhausted, OtherHead, WrongParty, AgainstRules}
 use Rattle.rows.specs.Messages.{message_keeps}
 use Rattle.rows.specs.Rows.{is_normal, row_keeps}

@@ -69,11 +69,11 @@ follows_hearing f need r head p w h up lost st i Answered x = judges f need r he
 follows_hearing f need r head p w h up lost st i Outdone x = spares r head p p w Nothing (st Nothing) tt Spare None (inl refl)
 follows_hearing f need r head p w h up lost st i Aborted x = closes r head p p w Nothing (st Nothing) tt x
 
-heard_lawful : (f : ℕ → ℕ → Bool) (need : Need) (r : ℕ) (p : Page) (w : Row) (h : Head) (e : Effect) → Offered r p w → head_of w.stage ≡ Some h → (x : Result Turn Reason) →
+heard_lawful : (f : ℕ → ℕ → Bool) (need : Need) (r : ℕ) (p : Page) (w : Row) (h : Head) (e : Effect) → Offered r p w → head_of w.stage ≡ Some h → (x : Result (Turn Stage) Reason) →
     HeardKeeps r p (head_of w.stage) w.up w.lost x → heard_or_not f need r p w h x ≡ Ok e → Lawful r (head_of w.stage) p e
 heard_lawful f need r p w h e o i (Err reason) k d = absurd (let z : ◌≡◌ {A = ℕ} 0 1 = cc in omega arith)
 heard_lawful f need r p w h e o i (Ok t) k d =
-    let x = in_stage t.stage w in
+    let x = in_stage t.left w in
     let same : following f need r p x h t.hearing ≡ e = cc in
     let keep : row_keeps r p x ≡ true = row_from r p x (row_parts r p w o.row).0 k.stage in
     subst (Lawful r (head_of w.stage) p) same

@@ -67,15 +67,15 @@ gathering_fits head r p need survivors lost h g t k None = tt
 gathering_fits head r p need survivors lost h g t k (Some c) =
     let m = mode_normal p.mode k.normal in
     let needed = need_of need (size c.set.0) in
-    let missing = unheard h survivors g.members.0 g.newcomers.0 in
+    let missing = unheard h survivors g.recorders in
     gathering_chain head p (ltb (size (either g.states.0 (less survivors lost))) needed) (ltb (size g.states.0) needed) (nobody missing) (nobody (both missing lost))
     (has_view r p t (apart p.mode m)) (ap is_joining m)
 
 confirming_fits : (head : Option Head) (r : ℕ) (p : Page) (f : ℕ → ℕ → Bool) (survivors lost : ℕ) (h : Head) (g : Confirmed) → head ≡ Some h → Tests r p → ConfirmingFacts r p h g → (o : Option View) →
-    Fits head p (with_component o (λ c. carrying_verdict f (both g.members.0 survivors) survivors lost c.set.0))
+    Fits head p (with_component o (λ c. carrying_verdict f (both g.recorders.members.0 survivors) survivors lost c.set.0))
 confirming_fits head r p f survivors lost h g e t k None = tt
 confirming_fits head r p f survivors lost h g e t k (Some c) =
-    carrying_fits head p f (both g.members.0 survivors) survivors lost c.set.0 (h, e, k.under) (has_view r p t (apart p.mode (mode_normal p.mode k.normal)))
+    carrying_fits head p f (both g.recorders.members.0 survivors) survivors lost c.set.0 (h, e, k.under) (has_view r p t (apart p.mode (mode_normal p.mode k.normal)))
 
 applying_chain : (head : Option Head) (p : Page) (a b c : Bool) → Fits head p Closes → Fits head p (cond a Records (cond b Closes (cond c Closes Stays)))
 applying_chain head p true b c x = tt
@@ -105,9 +105,9 @@ stage_fits head f need r p survivors lost up l (Entering h e) i t k =
     let x = entering_from r p h e k in
     let j = x.joining in
     let s = e.reference.survivors.0 in
-    let missing = unheard h s e.members.0 e.newcomers.0 in
-    entering_chain head p (carrying_verdict f (both e.members.0 s) s lost e.reference.component.set.0) (nobody missing) (nobody (both missing lost))
-    (carrying_fits head p f (both e.members.0 s) s lost e.reference.component.set.0 (h, i, x.under) (has_view r p t (joining_apart p.mode (mode_joining p.mode j)))) j
+    let missing = unheard h s e.recorders in
+    entering_chain head p (carrying_verdict f (both e.recorders.members.0 s) s lost e.reference.component.set.0) (nobody missing) (nobody (both missing lost))
+    (carrying_fits head p f (both e.recorders.members.0 s) s lost e.reference.component.set.0 (h, i, x.under) (has_view r p t (joining_apart p.mode (mode_joining p.mode j)))) j
 stage_fits head f need r p survivors lost up l (Round h rs) i t k =
     let x = round_from r p h rs k in
     round_chain head p (round_end f h rs).0 (round_end f h rs).1 (nobody lost) (within h.set.0 (heard_of rs))

@@ -8,6 +8,7 @@ use Rattle.quorum.specs.Members.{has}
 use Rattle.quorum.specs.declared.set.ReplicaSet.{ReplicaSet}
 use Rattle.rounds.specs.Reports.{reported}
 use Rattle.rounds.specs.declared.report.Report.{Report}
+use Rattle.rows.specs.Recorders.{recorders_within}
 use Rattle.rows.specs.Rows.{is_waiting, is_joining, is_normal, is_reconfiguration, head_keeps, survivors_keep, has_next, reference_keeps, under_head, not_later, report_breaks, gathering_keeps, confirming_keeps, applying_keeps, entering_keeps, round_keeps, idle_keeps, stage_keeps, row_keeps}
 use Rattle.rows.specs.declared.row.Applied.{Applied}
 use Rattle.rows.specs.declared.row.Confirmed.{Confirmed}
@@ -50,42 +51,38 @@ pub record GatheringFacts (r : ℕ) (p : Page) (h : Head) (g : Gathered) : Type 
   pub next : has_next p.component ≡ true
   pub later : not_later h p.recorded ≡ true
   pub states : within g.states.0 h.set.0 ≡ true
-  pub members : within g.members.0 h.set.0 ≡ true
-  pub newcomers : within g.newcomers.0 h.set.0 ≡ true
+  pub recorders : recorders_within g.recorders h.set.0 ≡ true
 
 pub gathering_from : (r : ℕ) (p : Page) (h : Head) (g : Gathered) → gathering_keeps r p h g ≡ true → GatheringFacts r p h g
 gathering_from r p h g e =
-    let a = and_parts _ (within g.newcomers.0 h.set.0) e in
-    let b = and_parts _ (within g.members.0 h.set.0) a.0 in
+    let b = and_parts _ (recorders_within g.recorders h.set.0) e in
     let c = and_parts _ (within g.states.0 h.set.0) b.0 in
     let d = and_parts _ (not_later h p.recorded) c.0 in
     let i = and_parts _ (has_next p.component) d.0 in
     let j = and_parts (is_normal p.mode) (head_keeps r p h) i.0 in
-    record { normal = j.0; head = head_from r p h j.1; next = i.1; later = d.1; states = c.1; members = b.1; newcomers = a.1 }
+    record { normal = j.0; head = head_from r p h j.1; next = i.1; later = d.1; states = c.1; recorders = b.1 }
 
 pub gathering_back : (r : ℕ) (p : Page) (h : Head) (g : Gathered) → GatheringFacts r p h g → gathering_keeps r p h g ≡ true
 gathering_back r p h g f =
-    and_from _ _ (and_from _ _ (and_from _ _ (and_from _ _ (and_from _ _ (and_from _ _ f.normal (head_back r p h f.head)) f.next) f.later) f.states) f.members) f.newcomers
+    and_from _ _ (and_from _ _ (and_from _ _ (and_from _ _ (and_from _ _ f.normal (head_back r p h f.head)) f.next) f.later) f.states) f.recorders
 
 -- ---- confirming
 pub record ConfirmingFacts (r : ℕ) (p : Page) (h : Head) (g : Confirmed) : Type 0 where
   pub normal : is_normal p.mode ≡ true
   pub head : HeadFacts r p h
   pub under : under_head h p.recorded ≡ true
-  pub members : within g.members.0 h.set.0 ≡ true
-  pub newcomers : within g.newcomers.0 h.set.0 ≡ true
+  pub recorders : recorders_within g.recorders h.set.0 ≡ true
 
 pub confirming_from : (r : ℕ) (p : Page) (h : Head) (g : Confirmed) → confirming_keeps r p h g ≡ true → ConfirmingFacts r p h g
 confirming_from r p h g e =
-    let a = and_parts _ (within g.newcomers.0 h.set.0) e in
-    let b = and_parts _ (within g.members.0 h.set.0) a.0 in
+    let b = and_parts _ (recorders_within g.recorders h.set.0) e in
     let c = and_parts _ (under_head h p.recorded) b.0 in
     let d = and_parts (is_normal p.mode) (head_keeps r p h) c.0 in
-    record { normal = d.0; head = head_from r p h d.1; under = c.1; members = b.1; newcomers = a.1 }
+    record { normal = d.0; head = head_from r p h d.1; under = c.1; recorders = b.1 }
 
 pub confirming_back : (r : ℕ) (p : Page) (h : Head) (g : Confirmed) → ConfirmingFacts r p h g → confirming_keeps r p h g ≡ true
 confirming_back r p h g f =
-    and_from _ _ (and_from _ _ (and_from _ _ (and_from _ _ f.normal (head_back r p h f.head)) f.under) f.members) f.newcomers
+    and_from _ _ (and_from _ _ (and_from _ _ f.normal (head_back r p h f.head)) f.under) f.recorders
 
 -- ---- applying
 pub record ApplyingFacts (r : ℕ) (p : Page) (h : Head) (a : Applied) : Type 0 where
@@ -115,21 +112,19 @@ pub record EnteringFacts (r : ℕ) (p : Page) (h : Head) (e : Entered) : Type 0 
   pub head : HeadFacts r p h
   pub under : under_head h p.recorded ≡ true
   pub reference : reference_keeps (Some e.reference) ≡ true
-  pub members : within e.members.0 h.set.0 ≡ true
-  pub newcomers : within e.newcomers.0 h.set.0 ≡ true
+  pub recorders : recorders_within e.recorders h.set.0 ≡ true
 
 pub entering_from : (r : ℕ) (p : Page) (h : Head) (e : Entered) → entering_keeps r p h e ≡ true → EnteringFacts r p h e
 entering_from r p h e k =
-    let a = and_parts _ (within e.newcomers.0 h.set.0) k in
-    let b = and_parts _ (within e.members.0 h.set.0) a.0 in
+    let b = and_parts _ (recorders_within e.recorders h.set.0) k in
     let c = and_parts _ (reference_keeps (Some e.reference)) b.0 in
     let d = and_parts _ (under_head h p.recorded) c.0 in
     let i = and_parts (is_joining p.mode) (head_keeps r p h) d.0 in
-    record { joining = i.0; head = head_from r p h i.1; under = d.1; reference = c.1; members = b.1; newcomers = a.1 }
+    record { joining = i.0; head = head_from r p h i.1; under = d.1; reference = c.1; recorders = b.1 }
 
 pub entering_back : (r : ℕ) (p : Page) (h : Head) (e : Entered) → EnteringFacts r p h e → entering_keeps r p h e ≡ true
 entering_back r p h e f =
-    and_from _ _ (and_from _ _ (and_from _ _ (and_from _ _ (and_from _ _ f.joining (head_back r p h f.head)) f.under) f.reference) f.members) f.newcomers
+    and_from _ _ (and_from _ _ (and_from _ _ (and_from _ _ f.joining (head_back r p h f.head)) f.under) f.reference) f.recorders
 
 -- ---- a round
 pub record RoundFacts (r : ℕ) (p : Page) (h : Head) (rs : List (Option Report)) : Type 0 where

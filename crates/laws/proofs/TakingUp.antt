@@ -9,6 +9,7 @@ use Rattle.quorum.specs.Sets.{less, single}
 use Rattle.quorum.specs.declared.set.ReplicaSet.{ReplicaSet}
 use Rattle.rounds.specs.Reports.{reported}
 use Rattle.rows.specs.Messages.{reporting_mode, report_keeps, message_keeps}
+use Rattle.rows.specs.Recorders.{no_recorders}
 use Rattle.rows.specs.Rows.{is_normal, survivors_keep, has_next, not_later, report_breaks, stage_keeps, row_keeps}
 use Rattle.rows.specs.declared.message.Message.{Message}
 use Rattle.rows.specs.declared.message.Posts.{Posts}
@@ -34,7 +35,7 @@ use Rattle.laws.proofs.Judged.{Stands, verdict_fits, carried}
 use Rattle.laws.proofs.Pages.{Tests, of_tests, topped_tests, reconfigured_tests, has_view}
 use Rattle.laws.proofs.Recording.{Told, posts_keep, entry_stands, again, judges}
 use Rattle.laws.proofs.Rows.{row_parts, row_from, gathering_back, applying_back, round_back}
-use Rattle.laws.proofs.Subsets.{within_itself, within_none, within_alone, within_less, within_first, within_second}
+use Rattle.laws.proofs.Subsets.{within_itself, within_none, within_alone, within_less, within_first, within_second, recorders_none}
 
 -- a page is not behind itself
 same_mark : (m : Option Number) → NotLower m m
@@ -158,15 +159,14 @@ module _ (f : ℕ → ℕ → Bool) (need : Need) (r : ℕ) (p : Page) (w : Row)
     gathers : (posts : Posts) → Stands r (Some h) p posts (topped p h) (gathering_row r (thinned w h) h)
     gathers =
         topped_stands (gathering_row r (thinned w h) h) refl (row_from r (topped p h) (gathering_row r (thinned w h) h) thin_keeps
-        (gathering_back r (topped p h) h (record { states = record { 0 = single r }; members = record { 0 = 0 }; newcomers = record { 0 = 0 }; answered = false })
+        (gathering_back r (topped p h) h (record { states = record { 0 = single r }; recorders = no_recorders; answered = false })
         (record {
           normal = rw m;
           head = record { holds = a.holds; stamped = le_refl h.stamp.0 };
           next = next;
           later = before;
           states = within_alone h.set.0 r a.holds;
-          members = within_none h.set.0;
-          newcomers = within_none h.set.0;
+          recorders = recorders_none h.set.0;
         })))
 
     members : Lawful r (Some h) p (member_takes_up f need r (topped p h) (thinned w h) h c)

@@ -12,6 +12,7 @@ use Rattle.quorum.specs.declared.set.ReplicaSet.{ReplicaSet}
 use Rattle.rounds.specs.declared.outcome.Outcome.TheVariants.{Spare}
 use Rattle.rounds.specs.declared.report.Report.{Report}
 use Rattle.rows.specs.Messages.{message_keeps}
+use Rattle.rows.specs.Recorders.{no_recorders}
 use Rattle.rows.specs.Rows.{row_keeps, is_normal}
 use Rattle.rows.specs.declared.message.Body.TheVariants.{State, Abort, Join, Report as Reports}
 use Rattle.rows.specs.declared.message.Message.{Message}
@@ -143,7 +144,7 @@ thinned w h = record { up = w.up; lost = w.lost; survivors = record { 0 = both w
 
 -- the replica's own State counts as heard
 abbrev pub gathering_row : ℕ → Row → Head → Row
-gathering_row r w h = in_stage (Gathering h (record { states = record { 0 = single r }; members = nobody_set; newcomers = nobody_set; answered = false })) w
+gathering_row r w h = in_stage (Gathering h (record { states = record { 0 = single r }; recorders = no_recorders; answered = false })) w
 
 abbrev pub state_message : ℕ → Head → View → ReplicaSet → Message
 state_message r h c s = record { sender = r; head = h; body = State c s }
@@ -210,9 +211,9 @@ unless_refused (Some fault) e = Err fault
 unfoldable pub viewed : (ℕ → ℕ → Bool) → Need → ℕ → Page → Row → Head → Result Effect Fault
 viewed f need r p w h = unless_refused (view_refusal r p w h) (taking_up f need r p w h)
 
-abbrev pub heard_or_not : (ℕ → ℕ → Bool) → Need → ℕ → Page → Row → Head → Result Turn Reason → Result Effect Fault
+abbrev pub heard_or_not : (ℕ → ℕ → Bool) → Need → ℕ → Page → Row → Head → Result (Turn Stage) Reason → Result Effect Fault
 heard_or_not f need r p w h (Err reason) = Err (refusal reason r)
-heard_or_not f need r p w h (Ok t) = Ok (following f need r p (in_stage t.stage w) h t.hearing)
+heard_or_not f need r p w h (Ok t) = Ok (following f need r p (in_stage t.left w) h t.hearing)
 
 abbrev pub delivered_to : (ℕ → ℕ → Bool) → Need → ℕ → Page → Row → Message → Option Fault → Result Effect Fault
 delivered_to f need r p w m (Some fault) = Err fault

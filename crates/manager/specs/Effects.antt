@@ -1,7 +1,6 @@
 -- What a call leaves: recording, installing, settling, closing, and what judging comes to. Assumes nothing.
 use Rattle.std.specs.Prelude.{ℕ, ◌+◌, max, Bool, cond, Some, None, Option, nat_lt}
 use Rattle.quorum.specs.Members.{has}
-use Rattle.quorum.specs.Sets.{either, single}
 use Rattle.quorum.specs.declared.set.ReplicaSet.{ReplicaSet}
 use Rattle.rounds.specs.declared.outcome.Outcome.{Outcome}
 use Rattle.stores.specs.declared.page.Mode.{Mode}
@@ -13,6 +12,7 @@ use Rattle.stores.specs.declared.view.Recorded.{Recorded as RecordedView}
 use Rattle.stores.specs.declared.view.View.{View}
 use Rattle.stores.specs.Views.{recorded as recorded_view}
 use Rattle.manager.specs.declared.answer.Answer.{Answer}
+use Rattle.rows.specs.Recorders.{no_recorders, recorders_with}
 use Rattle.rows.specs.declared.message.Body.TheVariants.{Recorded}
 use Rattle.rows.specs.declared.message.Message.{Message}
 use Rattle.rows.specs.declared.message.Part.{Part}
@@ -105,11 +105,11 @@ carried_out r p w posts (Ends o v) = settling r p w posts o v
 -- ---- recording
 -- a member records the head with its component view's number plus one; its own Recorded counts as heard
 abbrev pub member_row : ℕ → Row → Head → Gathered → Row
-member_row r w h g = in_stage (Confirming h (record { members = record { 0 = either g.members.0 (single r) }; newcomers = g.newcomers; answered = g.answered })) w
+member_row r w h g = in_stage (Confirming h (record { recorders = recorders_with g.recorders r Member; answered = g.answered })) w
 
 -- a newcomer records it with the reference's number plus one
 abbrev pub newcomer_row : ℕ → Row → Head → Reference → Row
-newcomer_row r w h x = in_stage (Entering h (record { reference = x; members = nobody_set; newcomers = record { 0 = single r } })) w
+newcomer_row r w h x = in_stage (Entering h (record { reference = x; recorders = recorders_with no_recorders r Newcomer })) w
 
 -- Recorded of replica r under its head
 abbrev pub recorded_message : ℕ → Head → ℕ → Part → Message

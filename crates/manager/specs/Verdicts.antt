@@ -13,10 +13,12 @@ use Rattle.stores.specs.declared.view.Head.{Head}
 use Rattle.stores.specs.declared.view.View.{View}
 use Rattle.manager.specs.declared.need.Need.{Need}
 use Rattle.manager.specs.declared.need.Need.TheVariants.{One, MoreThanHalf}
+use Rattle.rows.specs.Recorders.{all_recorders}
 use Rattle.rows.specs.declared.row.Applied.{Applied}
 use Rattle.rows.specs.declared.row.Confirmed.{Confirmed}
 use Rattle.rows.specs.declared.row.Entered.{Entered}
 use Rattle.rows.specs.declared.row.Gathered.{Gathered}
+use Rattle.rows.specs.declared.row.Recorders.{Recorders}
 use Rattle.rows.specs.declared.row.Reference.{Reference}
 use Rattle.rows.specs.declared.row.Row.{Row}
 use Rattle.rows.specs.declared.row.Stage.{Stage}
@@ -34,8 +36,8 @@ abbrev pub newcomers_of : Head → ℕ → ℕ
 newcomers_of h survivors = less h.set.0 survivors
 
 -- newcomers whose Recorded was not heard, as a member's or a newcomer's
-abbrev pub unheard : Head → ℕ → ℕ → ℕ → ℕ
-unheard h survivors members newcomers = less (newcomers_of h survivors) (either members newcomers)
+abbrev pub unheard : Head → ℕ → Recorders → ℕ
+unheard h survivors x = less (newcomers_of h survivors) (all_recorders x)
 
 -- a set is empty
 abbrev pub nobody : ℕ → Bool
@@ -46,7 +48,7 @@ nobody s = s == 0
 abbrev pub gathering_verdict : Need → ℕ → ℕ → Head → Gathered → View → Verdict
 gathering_verdict need survivors lost h g c =
     let needed = need_of need (size c.set.0) in
-    let missing = unheard h survivors g.members.0 g.newcomers.0 in
+    let missing = unheard h survivors g.recorders in
     cond (nat_lt (size (either g.states.0 (less survivors lost))) needed) Reconfigures
     (cond (nat_lt (size g.states.0) needed) Stays
     (cond (nobody missing) Records
@@ -59,7 +61,7 @@ carrying_verdict f heard survivors lost set =
 
 -- Confirming: survivors heard as recording members
 abbrev pub confirming_verdict : (ℕ → ℕ → Bool) → ℕ → ℕ → Confirmed → View → Verdict
-confirming_verdict f survivors lost g c = carrying_verdict f (both g.members.0 survivors) survivors lost c.set.0
+confirming_verdict f survivors lost g c = carrying_verdict f (both g.recorders.members.0 survivors) survivors lost c.set.0
 
 -- Applying: who may still send a State, beside those who did; never itself or the lost
 abbrev pub possible_senders : ℕ → ℕ → Head → Applied → Option Reference → ℕ
@@ -87,8 +89,8 @@ applying_verdict need r lost h a =
 abbrev pub entering_verdict : (ℕ → ℕ → Bool) → ℕ → Head → Entered → Verdict
 entering_verdict f lost h e =
     let survivors = e.reference.survivors.0 in
-    let missing = unheard h survivors e.members.0 e.newcomers.0 in
-    cond (nobody missing) (carrying_verdict f (both e.members.0 survivors) survivors lost e.reference.component.set.0)
+    let missing = unheard h survivors e.recorders in
+    cond (nobody missing) (carrying_verdict f (both e.recorders.members.0 survivors) survivors lost e.reference.component.set.0)
     (cond (nobody (both missing lost)) Stays Forgets)
 
 -- the replicas whose reports were heard

@@ -8,7 +8,9 @@ use super::need::Need;
 use super::verdict::Verdict;
 use quorum::{QuorumRule, ReplicaSet};
 use rounds::Outcome;
-use rows::{Applied, Body, Confirmed, Entered, Gathered, Message, Part, Posts, Row, Stage};
+use rows::{
+    Applied, Body, Confirmed, Entered, Gathered, Message, Part, Posts, Recorders, Row, Stage,
+};
 use stores::{Head, Mode, Number, Page, Recorded, View};
 
 // The head closes: idle, with nothing lost or heard.
@@ -178,8 +180,7 @@ fn record_member(
         return None;
     };
     let confirmed = Confirmed {
-        members: gathered.members.with(replica),
-        newcomers: gathered.newcomers,
+        recorders: gathered.recorders.with(replica, Part::Member),
         answered: gathered.answered,
     };
     row.stage = Stage::Confirming(head, confirmed);
@@ -206,8 +207,7 @@ fn record_newcomer(
     };
     let entered = Entered {
         reference,
-        members: ReplicaSet::EMPTY,
-        newcomers: ReplicaSet::of(replica),
+        recorders: Recorders::NOBODY.with(replica, Part::Newcomer),
     };
     row.stage = Stage::Entering(head, entered);
     page.mode = Mode::Joining;

@@ -2,13 +2,13 @@
 ghost use Rattle.std.specs.Prelude.{◌≡◌, ℕ, ◌+◌, ◌<◌, is_some, if◌then◌else◌};
 ghost use Rattle.rounds.specs.Reports.{reported};
 ghost use Rattle.manager.specs.Effects.{in_stage};
-ghost use Rattle.manager.specs.Hearing.{one_above, as_recorded, as_component, reaches_mark, as_reference, fixed, gathered_recorded, confirmed_recorded, entered_recorded, base_of, above, outdoes, may_hear, hears_gathering, hears_confirming, hears_applying, hears_entering, hears_round, hears_stage, hears, hearing_of, stage_left};
+ghost use Rattle.manager.specs.Hearing.{one_above, as_recorded, as_component, reaches_mark, as_reference, fixed, hears_recorded, base_of, above, outdoes, may_hear, hears_gathering, hears_confirming, hears_applying, hears_entering, hears_round, hears_stage, hears, hearing_of, left_of};
 
 use super::hearing::Hearing;
 use super::judge::is_reported;
 use quorum::{Reason, ReplicaSet};
 use rounds::Report;
-use rows::{Body, Confirmed, Entered, Gathered, Message, Part, Reference, Row, Stage};
+use rows::{Applied, Body, Confirmed, Entered, Gathered, Part, Recorders, Reference, Row, Stage};
 use stores::{Mode, Number, Page, Recorded, View};
 
 // One above the component view's number.
@@ -118,86 +118,162 @@ fn may_hear(hears: bool, already: bool) -> Result<(), Reason>
     Ok(())
 }
 
-fn hear_stage(page: &Page, row: &mut Row, sender: u8, body: &Body) -> Result<Hearing, Reason>
-    requires { sender < 16 }
-    ensures answer { result ≡ hearing_of (hears_stage page.now row.old.survivors sender body.now row.old.stage) }
-    ensures row { row.new ≡ in_stage (stage_left row.old.stage (hears_stage page.now row.old.survivors sender body.now row.old.stage)) row.old }
+// A Recorded is heard once from a sender, in whichever part.
+fn hear_recorded(
+    recorders: &mut Recorders,
+    hears: bool,
+    sender: u8,
+    part: Part,
+) -> Result<Hearing, Reason>
+    ensures answer { result ≡ hearing_of (hears_recorded hears recorders.old sender part) }
+    ensures recorders { recorders.new ≡ left_of recorders.old (hears_recorded hears recorders.old sender part) }
 {
-    let survivors = row.survivors;
-    match (&mut row.stage, body) {
-        (Stage::Gathering(_, gathered), Body::State(component, _)) => {
+    may_hear(hears, recorders.all().contains(sender))?;
+    *recorders = recorders.with(sender, part);
+    Ok(Hearing::Heard)
+}
+
+#[tactic(auto, using(crate::proofs::Turns::heard_answers))]
+fn hear_gathering(
+    page: &Page,
+    survivors: ReplicaSet,
+    gathered: &mut Gathered,
+    sender: u8,
+    body: &Body,
+) -> Result<Hearing, Reason>
+    ensures answer { result ≡ hearing_of (hears_gathering page.now survivors gathered.old sender body.now) }
+    ensures gathered { gathered.new ≡ left_of gathered.old (hears_gathering page.now survivors gathered.old sender body.now) }
+{
+    match body {
+        Body::State(component, _) => {
             let hears = survivors.contains(sender) && is_component(page.component, *component);
             may_hear(hears, gathered.states.contains(sender))?;
             gathered.states = gathered.states.with(sender);
             Ok(Hearing::Heard)
         }
-        (Stage::Gathering(_, gathered), Body::Recorded(number, part)) => {
-            let already = gathered.members.union(gathered.newcomers).contains(sender);
-            may_hear(is_one_above(page.component, *number), already)?;
-            match part {
-                Part::Member => gathered.members = gathered.members.with(sender),
-                Part::Newcomer => gathered.newcomers = gathered.newcomers.with(sender),
-            }
-            Ok(Hearing::Heard)
+        Body::Recorded(number, part) => {
+            let hears = is_one_above(page.component, *number);
+            hear_recorded(&mut gathered.recorders, hears, sender, *part)
         }
-        (Stage::Gathering(_, gathered), Body::Report(report)) => {
-            may_hear(
-                matches!(report.mode, Mode::Reconfiguration),
-                gathered.answered,
-            )?;
+        Body::Report(report) => {
+            let hears = matches!(report.mode, Mode::Reconfiguration);
+            may_hear(hears, gathered.answered)?;
             gathered.answered = true;
             Ok(Hearing::Answered)
         }
-        (Stage::Confirming(_, confirmed), Body::Recorded(number, part)) => {
-            let already = confirmed
-                .members
-                .union(confirmed.newcomers)
-                .contains(sender);
-            may_hear(is_recorded(page.recorded, *number), already)?;
-            match part {
-                Part::Member => confirmed.members = confirmed.members.with(sender),
-                Part::Newcomer => confirmed.newcomers = confirmed.newcomers.with(sender),
-            }
-            Ok(Hearing::Heard)
+        Body::Abort | Body::Join => Err(Reason::NotHeard),
+    }
+}
+
+#[tactic(auto, using(crate::proofs::Turns::heard_answers))]
+fn hear_confirming(
+    page: &Page,
+    confirmed: &mut Confirmed,
+    sender: u8,
+    body: &Body,
+) -> Result<Hearing, Reason>
+    ensures answer { result ≡ hearing_of (hears_confirming page.now confirmed.old sender body.now) }
+    ensures confirmed { confirmed.new ≡ left_of confirmed.old (hears_confirming page.now confirmed.old sender body.now) }
+{
+    match body {
+        Body::Recorded(number, part) => {
+            let hears = is_recorded(page.recorded, *number);
+            hear_recorded(&mut confirmed.recorders, hears, sender, *part)
         }
-        (Stage::Confirming(_, confirmed), Body::Report(report)) => {
-            may_hear(
-                matches!(report.mode, Mode::Reconfiguration),
-                confirmed.answered,
-            )?;
+        Body::Report(report) => {
+            let hears = matches!(report.mode, Mode::Reconfiguration);
+            may_hear(hears, confirmed.answered)?;
             confirmed.answered = true;
             Ok(Hearing::Answered)
         }
-        (Stage::Applying(_, applied), Body::State(component, theirs)) => {
-            let fits = reaches_mark(page.mark, component.number)
+        Body::State(_, _) | Body::Abort | Body::Join => Err(Reason::NotHeard),
+    }
+}
+
+fn hear_applying(
+    page: &Page,
+    applied: &mut Applied,
+    sender: u8,
+    body: &Body,
+) -> Result<Hearing, Reason>
+    ensures answer { result ≡ hearing_of (hears_applying page.now applied.old sender body.now) }
+    ensures applied { applied.new ≡ left_of applied.old (hears_applying page.now applied.old sender body.now) }
+{
+    match body {
+        Body::State(component, theirs) => {
+            let hears = reaches_mark(page.mark, component.number)
                 && is_reference(applied.reference, *component);
-            may_hear(fits, applied.states.contains(sender))?;
+            may_hear(hears, applied.states.contains(sender))?;
             applied.states = applied.states.with(sender);
             applied.reference = Some(fix(applied.reference, *component, *theirs));
             Ok(Hearing::Heard)
         }
-        (Stage::Applying(_, applied), Body::Join) => {
+        Body::Join => {
             may_hear(applied.reference.is_none(), applied.joins.contains(sender))?;
             applied.sources = applied.sources.without(sender);
             applied.joins = applied.joins.with(sender);
             Ok(Hearing::Heard)
         }
-        (Stage::Applying(_, _), Body::Abort) => Ok(Hearing::Aborted),
-        (Stage::Entering(_, entered), Body::Recorded(number, part)) => {
-            let already = entered.members.union(entered.newcomers).contains(sender);
-            may_hear(is_recorded(page.recorded, *number), already)?;
-            match part {
-                Part::Member => entered.members = entered.members.with(sender),
-                Part::Newcomer => entered.newcomers = entered.newcomers.with(sender),
-            }
-            Ok(Hearing::Heard)
+        Body::Abort => Ok(Hearing::Aborted),
+        Body::Recorded(_, _) | Body::Report(_) => Err(Reason::NotHeard),
+    }
+}
+
+#[tactic(auto, using(crate::proofs::Turns::heard_answers))]
+fn hear_entering(
+    page: &Page,
+    entered: &mut Entered,
+    sender: u8,
+    body: &Body,
+) -> Result<Hearing, Reason>
+    ensures answer { result ≡ hearing_of (hears_entering page.now entered.old sender body.now) }
+    ensures entered { entered.new ≡ left_of entered.old (hears_entering page.now entered.old sender body.now) }
+{
+    match body {
+        Body::Recorded(number, part) => {
+            let hears = is_recorded(page.recorded, *number);
+            hear_recorded(&mut entered.recorders, hears, sender, *part)
         }
-        (Stage::Round(_, reports), Body::Report(report)) => {
+        Body::State(_, _) | Body::Abort | Body::Join | Body::Report(_) => Err(Reason::NotHeard),
+    }
+}
+
+fn hear_round(
+    page: &Page,
+    reports: &mut [Option<Report>; 16],
+    sender: u8,
+    body: &Body,
+) -> Result<Hearing, Reason>
+    requires { sender < 16 }
+    ensures answer { result ≡ hearing_of (hears_round page.now reports.old sender body.now) }
+    ensures reports { reports.new ≡ left_of reports.old (hears_round page.now reports.old sender body.now) }
+{
+    match body {
+        Body::Report(report) => {
             may_hear(true, is_reported(reports, sender))?;
             reports[sender as usize] = Some(*report);
             Ok(hear_report(page, report))
         }
-        _ => Err(Reason::NotHeard),
+        Body::State(_, _) | Body::Abort | Body::Join | Body::Recorded(_, _) => Err(
+            Reason::NotHeard,
+        ),
+    }
+}
+
+#[tactic(auto, using(crate::proofs::Turns::turned_answers, crate::proofs::Turns::turned_leaves))]
+fn hear_stage(page: &Page, row: &mut Row, sender: u8, body: &Body) -> Result<Hearing, Reason>
+    requires { sender < 16 }
+    ensures answer { result ≡ hearing_of (hears_stage page.now row.old.survivors sender body.now row.old.stage) }
+    ensures row { row.new ≡ in_stage (left_of row.old.stage (hears_stage page.now row.old.survivors sender body.now row.old.stage)) row.old }
+{
+    let survivors = row.survivors;
+    match &mut row.stage {
+        Stage::Idle => Err(Reason::NotHeard),
+        Stage::Gathering(_, gathered) => hear_gathering(page, survivors, gathered, sender, body),
+        Stage::Confirming(_, confirmed) => hear_confirming(page, confirmed, sender, body),
+        Stage::Applying(_, applied) => hear_applying(page, applied, sender, body),
+        Stage::Entering(_, entered) => hear_entering(page, entered, sender, body),
+        Stage::Round(_, reports) => hear_round(page, reports, sender, body),
     }
 }
 
@@ -205,7 +281,7 @@ fn hear_stage(page: &Page, row: &mut Row, sender: u8, body: &Body) -> Result<Hea
 pub(crate) fn hear(page: &Page, row: &mut Row, sender: u8, body: &Body) -> Result<Hearing, Reason>
     requires { sender < 16 }
     ensures answer { result ≡ hearing_of (hears page.now row.old sender body.now) }
-    ensures row { row.new ≡ in_stage (stage_left row.old.stage (hears page.now row.old sender body.now)) row.old }
+    ensures row { row.new ≡ in_stage (left_of row.old.stage (hears page.now row.old sender body.now)) row.old }
 {
     hear_stage(page, row, sender, body)
 }

@@ -7,21 +7,14 @@ use super::need::Need;
 use super::verdict::Verdict;
 use quorum::{QuorumRule, ReplicaSet};
 use rounds::{Outcome, Report, decide};
-use rows::{Applied, Confirmed, Entered, Gathered, Reference, Row, Stage};
+use rows::{Applied, Confirmed, Entered, Gathered, Recorders, Reference, Row, Stage};
 use stores::{Head, Page, View};
 
 // Newcomers, members of the head outside the survivors, whose Recorded was not heard.
-fn unheard(
-    head: Head,
-    survivors: ReplicaSet,
-    members: ReplicaSet,
-    newcomers: ReplicaSet,
-) -> ReplicaSet
-    ensures { result.0 ≡ unheard head survivors.0 members.0 newcomers.0 }
+fn unheard(head: Head, survivors: ReplicaSet, recorders: Recorders) -> ReplicaSet
+    ensures { result.0 ≡ unheard head survivors.0 recorders }
 {
-    head.set
-        .difference(survivors)
-        .difference(members.union(newcomers))
+    head.set.difference(survivors).difference(recorders.all())
 }
 
 fn judge_gathering(
@@ -42,7 +35,7 @@ fn judge_gathering(
     if gathered.states.len() < needed {
         return Verdict::Stays;
     }
-    let missing = unheard(head, survivors, gathered.members, gathered.newcomers);
+    let missing = unheard(head, survivors, gathered.recorders);
     if missing.is_empty() {
         return Verdict::Records;
     }
@@ -80,7 +73,7 @@ fn judge_confirming<R: QuorumRule>(
 ) -> Verdict
     ensures { result ≡ confirming_verdict (R.carries rule.now) survivors.0 lost.0 confirmed component }
 {
-    let heard = confirmed.members.intersection(survivors);
+    let heard = confirmed.recorders.members.intersection(survivors);
     judge_carrying(rule, heard, survivors, lost, component.set)
 }
 
@@ -154,9 +147,9 @@ fn judge_entering<R: QuorumRule>(
         component,
         survivors,
     } = entered.reference;
-    let missing = unheard(head, survivors, entered.members, entered.newcomers);
+    let missing = unheard(head, survivors, entered.recorders);
     if missing.is_empty() {
-        let heard = entered.members.intersection(survivors);
+        let heard = entered.recorders.members.intersection(survivors);
         return judge_carrying(rule, heard, survivors, lost, component.set);
     }
     if missing.intersection(lost).is_empty() {

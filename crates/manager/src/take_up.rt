@@ -9,7 +9,7 @@ use super::judge::judge;
 use super::need::Need;
 use quorum::{QuorumRule, ReplicaSet};
 use rounds::Report;
-use rows::{Applied, Body, Gathered, Message, Posts, Row, Stage};
+use rows::{Applied, Body, Gathered, Message, Posts, Recorders, Row, Stage};
 use stores::{Head, Mode, Page, View};
 
 fn message(replica: u8, head: Head, body: Body) -> Message
@@ -93,8 +93,7 @@ fn gather(replica: u8, row: &mut Row, head: Head)
 {
     let gathered = Gathered {
         states: ReplicaSet::of(replica),
-        members: ReplicaSet::EMPTY,
-        newcomers: ReplicaSet::EMPTY,
+        recorders: Recorders::NOBODY,
         answered: false,
     };
     row.stage = Stage::Gathering(head, gathered);

@@ -6,4 +6,4 @@ mod row;
 mod rules;
 
 pub use message::{Body, Message, Part, Posts};
-pub use row::{Applied, Confirmed, Entered, Gathered, Reference, Row, Stage};
+pub use row::{Applied, Confirmed, Entered, Gathered, Recorders, Reference, Row, Stage};

@@ -139,8 +139,7 @@ fn gathering_keeps_rules(replica: u8, page: &Page, head: Head, gathered: &Gather
         && has_next(page.component)
         && is_not_later(head, page.recorded)
         && gathered.states.is_subset(head.set)
-        && gathered.members.is_subset(head.set)
-        && gathered.newcomers.is_subset(head.set)
+        && gathered.recorders.is_within(head.set)
 }
 
 fn confirming_keeps_rules(replica: u8, page: &Page, head: Head, confirmed: &Confirmed) -> bool
@@ -149,8 +148,7 @@ fn confirming_keeps_rules(replica: u8, page: &Page, head: Head, confirmed: &Conf
     matches!(page.mode, Mode::Normal)
         && head_keeps_rules(replica, page, head)
         && is_under(head, page.recorded)
-        && confirmed.members.is_subset(head.set)
-        && confirmed.newcomers.is_subset(head.set)
+        && confirmed.recorders.is_within(head.set)
 }
 
 fn applying_keeps_rules(replica: u8, page: &Page, head: Head, applied: &Applied) -> bool
@@ -171,8 +169,7 @@ fn entering_keeps_rules(replica: u8, page: &Page, head: Head, entered: &Entered)
         && head_keeps_rules(replica, page, head)
         && is_under(head, page.recorded)
         && reference_keeps_rules(Some(entered.reference))
-        && entered.members.is_subset(head.set)
-        && entered.newcomers.is_subset(head.set)
+        && entered.recorders.is_within(head.set)
 }
 
 fn reported(reports: &[Option<Report>; 16], replica: u8) -> Option<Report>
