@@ -45,6 +45,11 @@ refusal reason r = refused_at Manager reason r
 abbrev pub first_of : Option Fault → Option Fault → Option Fault
 first_of a b = option_or a b
 
+-- what is found or done, unless it is refused
+abbrev pub unless_refused : {A : Type 0} → Option Fault → A → Result A Fault
+unless_refused None a = Ok a
+unless_refused (Some fault) a = Err fault
+
 -- page and row keep the rules
 abbrev pub all_keep : ℕ → Page → Row → Bool
 all_keep r p w = keeps_rules r p && row_keeps r p w
@@ -203,10 +208,6 @@ started Normal = Reconfiguration
 started Reconfiguration = Reconfiguration
 
 -- ---- the calls
-abbrev pub unless_refused : Option Fault → Effect → Result Effect Fault
-unless_refused None e = Ok e
-unless_refused (Some fault) e = Err fault
-
 -- a view is taken up
 unfoldable pub viewed : (ℕ → ℕ → Bool) → Need → ℕ → Page → Row → Head → Result Effect Fault
 viewed f need r p w h = unless_refused (view_refusal r p w h) (taking_up f need r p w h)

@@ -2,7 +2,7 @@
 ghost use Rattle.std.specs.Prelude.{◌≡◌, ◌+◌};
 ghost use Rattle.rounds.specs.Reports.{at_view, holds, clear, level, marked_above, says};
 
-use stores::{Mode, Number, Recorded, View};
+use stores::{Mode, Number, Page, Recorded, View};
 
 // The replica's page, but for the top stamp. An absent view or mark is `None`, never number 0.
 #[derive(Clone, Copy, PartialEq, Eq, Debug)]
@@ -19,6 +19,19 @@ pub(crate) enum Claim {
     Holds(Recorded),
     Clear,
     Level,
+}
+
+impl From<&Page> for Report {
+    ghost from_gives = { λ p r. r ≡ record { mode = p.now.mode; mark = p.now.mark; component = p.now.component; recorded = p.now.recorded } };
+
+    fn from(page: &Page) -> Report {
+        Report {
+            mode: page.mode,
+            mark: page.mark,
+            component: page.component,
+            recorded: page.recorded,
+        }
+    }
 }
 
 impl Report {
