@@ -1,5 +1,5 @@
 -- Hearing a message, stage by stage, is a chain of moves at a post that holds it. Assumes nothing.
-use Rattle.std.proofs.Common.{◌≡◌, ℕ, suc, ◌+◌, ◌≤◌, Bool, true, cond, not, ◌&&◌, ◌≢◌, List, [], set, is_some, Some, None, Ok, Err, Option, Result, sym, refl, ap, ◌∙◌, subst, inl, add-one}
+use Rattle.std.proofs.Common.{◌≡◌, ℕ, suc, ◌+◌, ◌≤◌, Bool, true, if◌then◌else◌, not, ◌&&◌, ◌≢◌, List, [], set, is_some, Some, None, Ok, Err, Option, Result, sym, refl, ap, ◌∙◌, subst, inl, add-one}
 use Rattle.std.proofs.lemmas.Bool.{cond_both, and_parts, eqb-true, leb-true}
 use Rattle.quorum.specs.Laws.{Grows, Meets}
 use Rattle.quorum.specs.Members.{has}
@@ -51,7 +51,7 @@ use Rattle.bridge.proofs.Reports.{others_stay, one_more}
 -- ---- what the tests of a message say
 pub heard_cases : {A : Type 0} (P : Result (Turn A) Reason → Type 0) (a b : Bool) (x : A) (k : Hearing) → ((e : Reason) → P (Err e)) → (a ≡ true → P (Ok (record { left = x; hearing = k }))) → P (heard_if a b x k)
 heard_cases P a b x k refused heard =
-    cond_both a (cond b (Err HeardAlready) (Ok (record { left = x; hearing = k }))) (Err NotHeard) P
+    cond_both a (if b then Err HeardAlready else Ok (record { left = x; hearing = k })) (Err NotHeard) P
     (λ e. cond_both b (Err HeardAlready) (Ok (record { left = x; hearing = k })) P (λ _. refused HeardAlready) (λ _. heard e)) (λ _. refused NotHeard)
 
 above_component : (o : Option View) (n : Number) → one_above o n ≡ true → (v : View) × (o ≡ Some v) × (n ≡ number (suc v.number.0))
@@ -193,7 +193,7 @@ module _ (carries : ℕ → ℕ → Bool) (grows : Grows carries) (meets : Meets
     round_hears rs (Recorded n part) st sub = tt
     round_hears rs (Reports m) st sub =
         let more : List (Option Report) = set rs q (Some m) in
-        heard_cases (Within (Round h) rs) true (is_some (reported rs q)) more (cond (outdoes p m) Outdone Heard) unheard
+        heard_cases (Within (Round h) rs) true (is_some (reported rs q)) more (if outdoes p m then Outdone else Heard) unheard
         (λ _.
         cond_both (outdoes p m) Outdone Heard (λ k. Within (Round h) rs (Ok (record { left = more; hearing = k })))
         (λ _. end become_spare)

@@ -1,5 +1,5 @@
 -- Judging a head, and what a verdict comes to, is a chain of moves. Assumes nothing.
-use Rattle.std.proofs.Common.{◌≡◌, ℕ, suc, Bool, true, false, cond, ◌&&◌, ltb, List, [], Some, None, Option, sym, refl, ap, subst}
+use Rattle.std.proofs.Common.{◌≡◌, ℕ, suc, Bool, true, false, if◌then◌else◌, ◌&&◌, ltb, List, [], Some, None, Option, sym, refl, ap, subst}
 use Rattle.std.proofs.lemmas.Bool.{cond_both}
 use Rattle.quorum.specs.Below.{within}
 use Rattle.quorum.specs.Laws.{Grows, Meets}
@@ -91,7 +91,7 @@ module _ (carries : ℕ → ℕ → Bool) (grows : Grows carries) (meets : Meets
   carrying_comes : (P : Verdict → Type 0) (heard survivors lost set : ℕ) → (carries heard set ≡ true → P Installs) → P Stays → P Reconfigures →
       P (carrying_verdict carries heard survivors lost set)
   carrying_comes P heard survivors lost set a b c =
-      cond_both (carries heard set) Installs (cond (carries (either heard (less survivors lost)) set) Stays Reconfigures) P a
+      cond_both (carries heard set) Installs (if carries (either heard (less survivors lost)) set then Stays else Reconfigures) P a
       (λ _. cond_both (carries (either heard (less survivors lost)) set) Stays Reconfigures P (λ _. b) (λ _. c))
 
   module _ (p : Page) (w : Row) (up : w.up ≡ true) where

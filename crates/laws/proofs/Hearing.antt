@@ -1,5 +1,5 @@
 -- What is heard leaves the row within its rules, and what is answered keeps the message rules. Assumes nothing.
-use Rattle.std.proofs.Common.{◌≡◌, ℕ, ◌<◌, Bool, true, false, cond, not, ◌&&◌, ltb, List, length, set, is_some, Some, None, Ok, Err, Option, Result, refl, ap, ◌∙◌, subst, ⊎_elim, arith}
+use Rattle.std.proofs.Common.{◌≡◌, ℕ, ◌<◌, Bool, true, false, if◌then◌else◌, not, ◌&&◌, ltb, List, length, set, is_some, Some, None, Ok, Err, Option, Result, refl, ap, ◌∙◌, subst, ⊎_elim, arith}
 use Rattle.std.proofs.lemmas.List.{get_or-set_same, get_or-set_other, set_past}
 use Rattle.std.proofs.lemmas.Bool.{and_from, and_parts, not_from_true, cases_eq, cases_lt}
 use Rattle.std.proofs.lemmas.Bool.Decides.{nat_tests}
@@ -35,7 +35,7 @@ use Rattle.manager.specs.Hearing.{Turn, heard_if, turned, one_above, as_recorded
 use Rattle.manager.specs.declared.hearing.Hearing.{Hearing}
 use Rattle.manager.specs.declared.hearing.Hearing.TheVariants.{Heard, Answered, Outdone, Aborted}
 use Rattle.laws.proofs.Pages.{Tests, of_tests, reported_tests}
-use Rattle.laws.proofs.Rows.{GatheringFacts, gathering_from, gathering_back, ConfirmingFacts, confirming_from, confirming_back, ApplyingFacts, applying_from, applying_back, EnteringFacts, entering_from, entering_back, RoundFacts, round_from, round_back, mode_normal, mode_waiting}
+use Rattle.rows.proofs.Facts.{GatheringFacts, gathering_from, gathering_back, ConfirmingFacts, confirming_from, confirming_back, ApplyingFacts, applying_from, applying_back, EnteringFacts, entering_from, entering_back, RoundFacts, round_from, round_back, mode_normal, mode_waiting}
 use Rattle.laws.proofs.Subsets.{within_added, within_less, recorders_added}
 
 -- a report more, of a member of the head
@@ -191,7 +191,7 @@ module _ (r : ℕ) (p : Page) (head : Option Head) (up : Bool) (lost : ReplicaSe
     entering_hears e (Reports m) f = tt
 
     -- ---- a round
-    outdone_or_heard : (b : Bool) → HearingKeeps (cond b Outdone Heard)
+    outdone_or_heard : (b : Bool) → HearingKeeps (if b then Outdone else Heard)
     outdone_or_heard true = tt
     outdone_or_heard false = tt
 
@@ -201,7 +201,7 @@ module _ (r : ℕ) (p : Page) (head : Option Head) (up : Bool) (lost : ReplicaSe
     round_hears rs Join k f = tt
     round_hears rs (Recorded n part) k f = tt
     round_hears rs (Reports m) k f =
-        heard (Round h) true (is_some (reported rs q)) (set rs q (Some m)) (cond (outdoes p m) Outdone Heard)
+        heard (Round h) true (is_some (reported rs q)) (set rs q (Some m)) (if outdoes p m then Outdone else Heard)
         (record {
           stage = round_back r p h (set rs q (Some m))
               (record { reconfiguration = f.reconfiguration; head = f.head; reports = one_more h q rs m sender k f.reports });

@@ -33,7 +33,7 @@ use Rattle.manager.specs.declared.verdict.Verdict.TheVariants.{Stays, Records, I
 use Rattle.laws.specs.Laws.{PostsKeep, last_of, Lawful}
 use Rattle.laws.proofs.Judged.{Fits, verdict_fits, without_fits, Stands, advances_raised, carried}
 use Rattle.laws.proofs.Pages.{recording_tests}
-use Rattle.laws.proofs.Rows.{row_parts, row_from, HeadFacts, GatheringFacts, gathering_from, confirming_back, applying_from, entering_back, mode_normal, mode_waiting}
+use Rattle.rows.proofs.Facts.{row_parts, row_from, HeadFacts, GatheringFacts, gathering_from, confirming_back, applying_from, entering_back, mode_normal, mode_waiting}
 use Rattle.laws.proofs.Subsets.{recorders_none, recorders_added}
 
 -- ---- messages
@@ -109,7 +109,7 @@ module _ (r : ℕ) (head : Option Head) (q p : Page) (w : Row) (first : Option M
     where
       absent : (o : Option View) (s : Bool) → mode_fits Waiting (is_some o) s ≡ true → o ≡ None
       absent None s e = refl
-      absent (Some v) s e = absurd (let z : ◌≡◌ {A = ℕ} 0 1 = cc in omega arith)
+      absent (Some v) s e = absurd cc
 
   newcomer_numbered : p.mode ≡ Waiting → (x : Reference) → reference_keeps (Some x) ≡ true → x.component.number.0 < 1000000000 →
       EntryStands r head q first (numbered_entry r p w h x (Some (record { 0 = x.component.number.0 + 1 })))

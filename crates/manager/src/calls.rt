@@ -1,6 +1,6 @@
 // The calls of a host, each on one page and one row. Any argument is allowed: a call does its work or is refused, and
 // then page and row are as they were.
-ghost use Rattle.std.specs.Prelude.{◌≡◌, ◌<◌};
+ghost use Rattle.std.specs.Prelude.{◌≡◌};
 ghost use Rattle.manager.specs.Calls.{following, heard_or_not, losing, empty_row, started, viewed, delivered, lost_at, stopped_at, started_at, answer_of, page_left, row_left};
 ghost use Rattle.manager.specs.Effects.{in_mode};
 ghost use Rattle.manager.specs.Hearing.{hears};

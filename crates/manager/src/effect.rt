@@ -1,5 +1,5 @@
 // What judging comes to: recording, installing, settling, closing.
-ghost use Rattle.std.specs.Prelude.{◌≡◌, ℕ, ◌<◌, Some};
+ghost use Rattle.std.specs.Prelude.{◌≡◌};
 ghost use Rattle.manager.specs.Effects.{closed, raised, component_page, component_row, spare_page, spare_row, installing, settling, carried_out, posts_of, recording, recorded_message, next_of, next_component, member_entry, newcomer_entry, entry_of, judged, without_recording, judged_after_loss};
 
 use super::answer::Answer;

@@ -1,8 +1,7 @@
 // What each stage hears: the row is changed in place.
-ghost use Rattle.std.specs.Prelude.{◌≡◌, ℕ, ◌+◌, ◌<◌, is_some, if◌then◌else◌};
-ghost use Rattle.rounds.specs.Reports.{reported};
+ghost use Rattle.std.specs.Prelude.{◌≡◌, if◌then◌else◌};
 ghost use Rattle.manager.specs.Effects.{in_stage};
-ghost use Rattle.manager.specs.Hearing.{one_above, as_recorded, as_component, reaches_mark, as_reference, fixed, hears_recorded, base_of, above, outdoes, may_hear, hears_gathering, hears_confirming, hears_applying, hears_entering, hears_round, hears, hearing_of, left_of};
+ghost use Rattle.manager.specs.Hearing.{one_above, as_recorded, as_component, reaches_mark, as_reference, fixed, hears_recorded, base_of, outdoes, may_hear, hears_gathering, hears_confirming, hears_applying, hears_entering, hears_round, hears, hearing_of, left_of};
 
 use super::hearing::Hearing;
 use quorum::{Reason, Replica, ReplicaSet};

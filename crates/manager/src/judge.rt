@@ -1,5 +1,5 @@
 // Judging a head, stage by stage.
-ghost use Rattle.std.specs.Prelude.{◌≡◌, ℕ, ◌<◌, is_some};
+ghost use Rattle.std.specs.Prelude.{◌≡◌, ◌<◌};
 ghost use Rattle.manager.specs.Verdicts.{gathering_verdict, carrying_verdict, confirming_verdict, possible_senders, asked, need_met, applying_verdict, entering_verdict, unheard, heard_of, round_end, round_verdict, verdict_of};
 
 use super::need::Need;

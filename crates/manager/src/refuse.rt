@@ -1,6 +1,6 @@
 // Why a call is turned down: the earliest that applies is given.
-ghost use Rattle.std.specs.Prelude.{◌≡◌, ◌<◌, not, ◌&&◌, ◌||◌, OnOk};
-ghost use Rattle.manager.specs.Calls.{unless_refused, refusal, all_keep, offer_refusal, call_refusal, head_of, is_open, at_highest, announcement_refusal, view_refusal, message_refusal, head_refusal, delivery_refusal, party_refusal, lost_refusal, loss_refusal, start_refusal};
+ghost use Rattle.std.specs.Prelude.{◌≡◌, ◌<◌, OnOk};
+ghost use Rattle.manager.specs.Calls.{unless_refused, offer_refusal, call_refusal, head_of, at_highest, announcement_refusal, view_refusal, message_refusal, head_refusal, delivery_refusal, party_refusal, lost_refusal, loss_refusal, start_refusal};
 ghost use Rattle.quorum.specs.Faults.{allowed};
 
 use quorum::{Fault, Layer, Reason, Replica, refuse_if};

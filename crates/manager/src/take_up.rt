@@ -1,6 +1,6 @@
 // Taking up a view.
-ghost use Rattle.std.specs.Prelude.{◌≡◌, ℕ, ◌<◌, replicate, Some, None};
-ghost use Rattle.manager.specs.Calls.{report_message, own_reports, beginning, topped, thinned, gathering_row, applying_row, member_takes_up, normal_takes_up, taking_up};
+ghost use Rattle.std.specs.Prelude.{◌≡◌, None};
+ghost use Rattle.manager.specs.Calls.{report_message, own_reports, beginning, thinned, gathering_row, applying_row, member_takes_up, normal_takes_up, taking_up};
 ghost use Rattle.manager.specs.Effects.{judged_again, entry_of};
 
 use super::answer::Answer;

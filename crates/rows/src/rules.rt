@@ -1,5 +1,5 @@
 // The rules that messages and rows keep.
-ghost use Rattle.std.specs.Prelude.{◌≡◌, ℕ, ◌<◌, true, not};
+ghost use Rattle.std.specs.Prelude.{◌≡◌, ◌<◌, true};
 ghost use Rattle.rounds.specs.Reports.{reported};
 ghost use Rattle.rows.specs.Messages.{kind_number, reporting_mode, reported_page, report_keeps, body_keeps, message_keeps};
 ghost use Rattle.rows.specs.Rows.{head_keeps, survivors_keep, has_next, reference_keeps, under_head, not_later, report_breaks, gathering_keeps, confirming_keeps, applying_keeps, entering_keeps, round_keeps, idle_keeps, stage_keeps, row_keeps};
