@@ -1,5 +1,5 @@
 -- What an accepted call knows of its page, row and message. Assumes nothing.
-use Rattle.std.proofs.Common.{◌≡◌, ℕ, ◌+◌, ◌<◌, Bool, true, false, not, ◌&&◌, ◌||◌, eqb, leb, ◌≢◌, Some, None, Ok, Option, sym, refl, ap, ◌∙◌, subst, add-one, arith}
+use Rattle.std.proofs.Common.{◌≡◌, ℕ, ◌+◌, ◌<◌, Bool, true, false, not, ◌||◌, eqb, leb, ◌≢◌, is_some, Some, None, Ok, Option, sym, refl, ap, ◌∙◌, subst, add-one, arith}
 use Rattle.std.proofs.lemmas.Bool.{and_parts, or_parts, not-false, leb-false, eqb-false}
 use Rattle.std.proofs.lemmas.Bool.Decides.{nat_tests}
 use Rattle.quorum.specs.declared.fault.Fault.{Fault}
@@ -10,17 +10,17 @@ use Rattle.stores.proofs.Same.{decides_head}
 use Rattle.stores.specs.Facts.{PageRules}
 use Rattle.stores.specs.Rules.{keeps_rules}
 use Rattle.stores.specs.Views.{same_head}
-use Rattle.stores.specs.declared.page.Mode.{Mode}
-use Rattle.stores.specs.declared.page.Mode.TheVariants.{Waiting, Joining, Normal, Reconfiguration}
+use Rattle.stores.specs.declared.page.Mode.TheVariants.{Joining, Normal}
 use Rattle.stores.specs.declared.page.Page.{Page}
 use Rattle.stores.specs.declared.view.Head.{Head}
 use Rattle.stores.specs.declared.view.Recorded.{Recorded}
-use Rattle.rows.specs.Rows.{is_normal, is_waiting, is_joining, is_reconfiguration, survivors_keep, under_head, stage_keeps, row_keeps}
+use Rattle.rows.specs.Rows.{is_joining, under_head, stage_keeps, row_keeps}
+use Rattle.rows.proofs.Facts.{row_parts, gathering_from, confirming_from, applying_from, entering_from, round_from, mode_normal, mode_waiting, mode_joining, mode_reconfiguration}
 use Rattle.rows.specs.declared.message.Message.{Message}
 use Rattle.rows.specs.declared.row.Row.{Row}
 use Rattle.rows.specs.declared.row.Stage.{Stage}
 use Rattle.rows.specs.declared.row.Stage.TheVariants.{Idle, Gathering, Confirming, Applying, Entering, Round}
-use Rattle.manager.specs.Calls.{refusal, all_keep, offer_refusal, call_refusal, head_of, is_open, announcement_refusal, view_refusal, message_refusal, head_refusal, delivery_refusal, lost_refusal, loss_refusal, unless_refused}
+use Rattle.manager.specs.Calls.{refusal, all_keep, offer_refusal, call_refusal, head_of, announcement_refusal, view_refusal, message_refusal, head_refusal, delivery_refusal, lost_refusal, loss_refusal, unless_refused}
 use Rattle.manager.specs.Effects.{Effect}
 use Rattle.safety.proofs.Marks.{none_some, false_true}
 use Rattle.bridge.proofs.Judged.{Staged, Confirms}
@@ -45,48 +45,9 @@ offered r p w h =
     let k = and_parts (keeps_rules r p) (row_keeps r p w) (not-false (all_keep r p w) (not_refused (not (all_keep r p w)) (refusal AgainstRules r) a.0)) in
     record { rules = rules_from r p k.0; row = k.1; below = leb-false 16 r (not_refused (leb 16 r) (refusal NoSuchReplica r) a.1) }
 
-mode_normal : (m : Mode) → is_normal m ≡ true → m ≡ Normal
-mode_normal Waiting e = absurd (false_true e)
-mode_normal Joining e = absurd (false_true e)
-mode_normal Normal e = refl
-mode_normal Reconfiguration e = absurd (false_true e)
-
-mode_waiting : (m : Mode) → is_waiting m ≡ true → m ≡ Waiting
-mode_waiting Waiting e = refl
-mode_waiting Joining e = absurd (false_true e)
-mode_waiting Normal e = absurd (false_true e)
-mode_waiting Reconfiguration e = absurd (false_true e)
-
-mode_joining : (m : Mode) → is_joining m ≡ true → m ≡ Joining
-mode_joining Waiting e = absurd (false_true e)
-mode_joining Joining e = refl
-mode_joining Normal e = absurd (false_true e)
-mode_joining Reconfiguration e = absurd (false_true e)
-
-mode_reconfiguration : (m : Mode) → is_reconfiguration m ≡ true → m ≡ Reconfiguration
-mode_reconfiguration Waiting e = absurd (false_true e)
-mode_reconfiguration Joining e = absurd (false_true e)
-mode_reconfiguration Normal e = absurd (false_true e)
-mode_reconfiguration Reconfiguration e = refl
-
 recorded_is : (h : Head) (o : Option Recorded) → under_head h o ≡ true → (d : Recorded) × (o ≡ Some d)
 recorded_is h None e = absurd (false_true e)
 recorded_is h (Some d) e = (d, refl)
-
--- ---- the first of several tests that all hold, and the third
-first_3 : (a b c : Bool) → (a && b && c) ≡ true → a ≡ true
-first_3 a b c h = (and_parts a b (and_parts (a && b) c h).0).0
-
-third_5 : (a b c d e : Bool) → (a && b && c && d && e) ≡ true → (a ≡ true) × (c ≡ true)
-third_5 a b c d e h =
-    let k = (and_parts (a && b && c) d (and_parts (a && b && c && d) e h).0).0 in
-    (first_3 a b c k, (and_parts (a && b) c k).1)
-
-third_6 : (a b c d e f : Bool) → (a && b && c && d && e && f) ≡ true → (a ≡ true) × (c ≡ true)
-third_6 a b c d e f h = third_5 a b c d e (and_parts (a && b && c && d && e) f h).0
-
-first_7 : (a b c d e f g : Bool) → (a && b && c && d && e && f && g) ≡ true → a ≡ true
-first_7 a b c d e f g h = (third_6 a b c d e f (and_parts (a && b && c && d && e && f) g h).0).0
 
 confirms : (r : ℕ) (p : Page) (h : Head) → PageRules r p → p.mode ≡ Normal → under_head h p.recorded ≡ true → Confirms p
 confirms r p h f m u =
@@ -97,21 +58,17 @@ confirms r p h f m u =
 
 stage_staged : (r : ℕ) (p : Page) (up : Bool) (w : Row) (s : Stage) → PageRules r p → stage_keeps r p up w.lost s ≡ true → Staged p s
 stage_staged r p up w Idle f k = tt
-stage_staged r p up w (Gathering h g) f k = mode_normal p.mode (first_7 _ _ _ _ _ _ _ k)
-stage_staged r p up w (Confirming h g) f k = let t = third_5 _ _ _ _ _ k in confirms r p h f (mode_normal p.mode t.0) t.1
-stage_staged r p up w (Applying h a) f k = let m = mode_waiting p.mode (third_6 _ _ _ _ _ _ k).0 in (m, (f.waiting m).0)
+stage_staged r p up w (Gathering h g) f k = mode_normal p.mode (gathering_from r p h g k).normal
+stage_staged r p up w (Confirming h g) f k = let t = confirming_from r p h g k in confirms r p h f (mode_normal p.mode t.normal) t.under
+stage_staged r p up w (Applying h a) f k = let m = mode_waiting p.mode (applying_from r p h a k).waiting in (m, (f.waiting m).0)
 stage_staged r p up w (Entering h x) f k =
-    let t = third_6 _ _ _ _ _ _ k in
-    let d = recorded_is h p.recorded t.1 in
-    ((f.joining (mode_joining p.mode t.0)).0, d.0, d.1)
-stage_staged r p up w (Round h rs) f k = mode_reconfiguration p.mode (first_3 _ _ _ k)
-
-stage_kept : (r : ℕ) (p : Page) (w : Row) → row_keeps r p w ≡ true → stage_keeps r p w.up w.lost w.stage ≡ true
-unfolding row_keeps
-stage_kept r p w k = (and_parts (survivors_keep w.survivors p.component) (stage_keeps r p w.up w.lost w.stage) k).1
+    let t = entering_from r p h x k in
+    let d = recorded_is h p.recorded t.under in
+    ((f.joining (mode_joining p.mode t.joining)).0, d.0, d.1)
+stage_staged r p up w (Round h rs) f k = mode_reconfiguration p.mode (round_from r p h rs k).reconfiguration
 
 pub staged : (r : ℕ) (p : Page) (w : Row) → Offered r p w → Staged p w.stage
-staged r p w o = stage_staged r p w.up w w.stage o.rules (stage_kept r p w o.row)
+staged r p w o = stage_staged r p w.up w w.stage o.rules (row_parts r p w o.row).1
 
 -- ---- calls at a replica that is up
 pub called : (r : ℕ) (p : Page) (w : Row) → call_refusal r p w ≡ None → Offered r p w × (w.up ≡ true)
@@ -120,7 +77,7 @@ called r p w h =
     (offered r p w a.0, not-false w.up (not_refused (not w.up) (refusal WrongPower r) a.1))
 
 -- ---- a view
-closed_stage : (s : Stage) → is_open (head_of s) ≡ false → s ≡ Idle
+closed_stage : (s : Stage) → is_some (head_of s) ≡ false → s ≡ Idle
 closed_stage Idle e = refl
 closed_stage (Gathering h g) e = absurd (false_true (sym e))
 closed_stage (Confirming h g) e = absurd (false_true (sym e))
@@ -141,7 +98,7 @@ announced r p w h e =
     let a = neither (call_refusal r p w) (announcement_refusal r p w h) e in
     let c = called r p w a.0 in
     let b = neither (refused_if (not (has h.set.0 r)) (refusal ViewWithoutReplica r)) _ a.1 in
-    let d = neither (refused_if (is_open (head_of w.stage)) (refusal HeadOpen r)) _ b.1 in
+    let d = neither (refused_if (is_some (head_of w.stage)) (refusal HeadOpen r)) _ b.1 in
     let f = neither (refused_if (leb h.stamp.0 p.top.0) (refusal StampNotAbove r)) _ d.1 in
     record {
       offer = c.0;
@@ -154,7 +111,7 @@ announced r p w h e =
 -- an idle replica that is up is not joining
 pub not_joining : (r : ℕ) (p : Page) (w : Row) (h : Head) → Announced r p w h → p.mode ≡ Joining → ⊥
 not_joining r p w h a m =
-    let k : stage_keeps r p w.up w.lost Idle ≡ true = subst (λ s. stage_keeps r p w.up w.lost s ≡ true) a.idle (stage_kept r p w a.offer.row) in
+    let k : stage_keeps r p w.up w.lost Idle ≡ true = subst (λ s. stage_keeps r p w.up w.lost s ≡ true) a.idle (row_parts r p w a.offer.row).1 in
     let u = a.up in
     let j : is_joining p.mode ≡ true = ap is_joining m in
     grind (arith, nat_tests)

@@ -9,6 +9,7 @@ use Rattle.stores.specs.declared.page.Page.{Page}
 use Rattle.rows.specs.Rows.{is_normal}
 use Rattle.rows.specs.declared.message.Message.{Message}
 use Rattle.rows.specs.declared.row.Row.{Row}
+use Rattle.rows.specs.declared.row.Stage.{Stage}
 use Rattle.manager.specs.Calls.{head_of, view_refusal, delivery_refusal, loss_refusal, call_refusal, start_refusal, taking_up, losing, empty_row, started, following, viewed, heard_or_not, delivered_to, delivered, lost_at, stopped_at, started_at}
 use Rattle.manager.specs.Effects.{Effect, effect, in_mode, in_stage, judged_after_loss, without_recording}
 use Rattle.manager.specs.Hearing.{Turn, hears}
@@ -53,12 +54,12 @@ module _ (carries : ℕ → ℕ → Bool) (grows : Grows carries) (meets : Meets
 
   -- ---- a delivery
   module _ (post : List Message) (p : Page) (w : Row) (m : Message) (e : Effect) (there : In m post) where
-    heard : (d : Delivered r p w m) (t : Result Turn Reason) → Follows carries grows meets need r (seen_post post) p w d.up m.sender d.other m.head w.stage t →
+    heard : (d : Delivered r p w m) (t : Result (Turn Stage) Reason) → Follows carries grows meets need r (seen_post post) p w d.up m.sender d.other m.head w.stage t →
         heard_or_not carries need r p w m.head t ≡ Ok e → MovesTo carries (seen_post post) r p w (head_of w.stage) e
     heard d (Err why) f i = absurd (err_ok i)
     heard d (Ok t) f i =
         subst (MovesTo carries (seen_post post) r p w (head_of w.stage)) (ok_inj i)
-        (subst (λ o. MovesTo carries (seen_post post) r p w o (following carries need r p (in_stage t.stage w) m.head t.hearing)) (sym d.head) f)
+        (subst (λ o. MovesTo carries (seen_post post) r p w o (following carries need r p (in_stage t.left w) m.head t.hearing)) (sym d.head) f)
 
     hears_moves : (d : Delivered r p w m) → Follows carries grows meets need r (seen_post post) p w d.up m.sender d.other m.head w.stage (hears p w m.sender m.body)
     unfolding hears

@@ -1,5 +1,5 @@
 -- Judging a head, and what a verdict comes to, is a chain of moves. Assumes nothing.
-use Rattle.std.proofs.Common.{◌≡◌, ℕ, suc, Bool, true, false, cond, ◌&&◌, ltb, List, [], Some, None, Option, sym, refl, ap, subst}
+use Rattle.std.proofs.Common.{◌≡◌, ℕ, suc, Bool, true, false, if◌then◌else◌, ◌&&◌, ltb, List, [], Some, None, Option, sym, refl, ap, subst}
 use Rattle.std.proofs.lemmas.Bool.{cond_both}
 use Rattle.quorum.specs.Below.{within}
 use Rattle.quorum.specs.Laws.{Grows, Meets}
@@ -91,7 +91,7 @@ module _ (carries : ℕ → ℕ → Bool) (grows : Grows carries) (meets : Meets
   carrying_comes : (P : Verdict → Type 0) (heard survivors lost set : ℕ) → (carries heard set ≡ true → P Installs) → P Stays → P Reconfigures →
       P (carrying_verdict carries heard survivors lost set)
   carrying_comes P heard survivors lost set a b c =
-      cond_both (carries heard set) Installs (cond (carries (either heard (less survivors lost)) set) Stays Reconfigures) P a
+      cond_both (carries heard set) Installs (if carries (either heard (less survivors lost)) set then Stays else Reconfigures) P a
       (λ _. cond_both (carries (either heard (less survivors lost)) set) Stays Reconfigures P (λ _. b) (λ _. c))
 
   module _ (p : Page) (w : Row) (up : w.up ≡ true) where
@@ -114,10 +114,10 @@ module _ (carries : ℕ → ℕ → Bool) (grows : Grows carries) (meets : Meets
     gathering_comes h g None = λ posts. rest
     gathering_comes h g (Some c) =
         let needed = need_of need (size c.set.0) in
-        let missing = unheard h w.survivors.0 g.members.0 g.newcomers.0 in
+        let missing = unheard h w.survivors.0 g.recorders in
         let P : Verdict → Type 0 = Comes p (in_stage (Gathering h g) w) in
         let stays : P Stays = λ posts. rest in
-        let closes : P Closes = λ posts. one_move carries post r (give_up h g.members.0 refl) in
+        let closes : P Closes = λ posts. one_move carries post r (give_up h g.recorders.members.0 refl) in
         cond_both (ltb (size (either g.states.0 (less w.survivors.0 w.lost.0))) needed) Reconfigures _ P (λ _. λ posts. one_move carries post r close)
         (λ _. cond_both (ltb (size g.states.0) needed) Stays _ P (λ _. stays)
         (λ _. cond_both (nobody missing) Records _ P (λ _. λ posts. rest)
@@ -128,8 +128,8 @@ module _ (carries : ℕ → ℕ → Bool) (grows : Grows carries) (meets : Meets
         Comes p (in_stage (Confirming h g) w) (with_component o (confirming_verdict carries w.survivors.0 w.lost.0 g))
     confirming_comes h g d e None i = λ posts. rest
     confirming_comes h g d e (Some c) i =
-        carrying_comes (Comes p (in_stage (Confirming h g) w)) (both g.members.0 w.survivors.0) w.survivors.0 w.lost.0 c.set.0
-        (λ carry. λ posts. installed (Confirming h g) d e (member_installs h c d g.members.0 (both g.members.0 w.survivors.0) refl i e (part_of g.members.0 w.survivors.0) carry) posts)
+        carrying_comes (Comes p (in_stage (Confirming h g) w)) (both g.recorders.members.0 w.survivors.0) w.survivors.0 w.lost.0 c.set.0
+        (λ carry. λ posts. installed (Confirming h g) d e (member_installs h c d g.recorders.members.0 (both g.recorders.members.0 w.survivors.0) refl i e (part_of g.recorders.members.0 w.survivors.0) carry) posts)
         (λ posts. rest) (λ posts. one_move carries post r close)
 
     -- ---- applying
@@ -146,12 +146,12 @@ module _ (carries : ℕ → ℕ → Bool) (grows : Grows carries) (meets : Meets
         Comes p (in_stage (Entering h x) w) (entering_verdict carries w.lost.0 h x)
     entering_comes h x d i e =
         let survivors = x.reference.survivors.0 in
-        let missing = unheard h survivors x.members.0 x.newcomers.0 in
+        let missing = unheard h survivors x.recorders in
         let P : Verdict → Type 0 = Comes p (in_stage (Entering h x) w) in
-        cond_both (nobody missing) (carrying_verdict carries (both x.members.0 survivors) survivors w.lost.0 x.reference.component.set.0) _ P
+        cond_both (nobody missing) (carrying_verdict carries (both x.recorders.members.0 survivors) survivors w.lost.0 x.reference.component.set.0) _ P
         (λ _.
-        carrying_comes P (both x.members.0 survivors) survivors w.lost.0 x.reference.component.set.0
-        (λ carry. λ posts. installed (Entering h x) d e (newcomer_installs h x.reference.component d x.members.0 (both x.members.0 survivors) refl e (part_of x.members.0 survivors) carry) posts)
+        carrying_comes P (both x.recorders.members.0 survivors) survivors w.lost.0 x.reference.component.set.0
+        (λ carry. λ posts. installed (Entering h x) d e (newcomer_installs h x.reference.component d x.recorders.members.0 (both x.recorders.members.0 survivors) refl e (part_of x.recorders.members.0 survivors) carry) posts)
         (λ posts. rest) (λ posts. one_move carries post r close))
         (λ _. cond_both (nobody (both missing w.lost.0)) Stays Forgets P (λ _. λ posts. rest) (λ _. λ posts. one_move carries post r (wait_again i)))
 

@@ -1,5 +1,5 @@
 -- Options and results. Assumes nothing.
-use Rattle.std.proofs.Common.{◌≡◌, ℕ, true, is_some, Some, None, Ok, Err, Option, Result, refl, arith}
+use Rattle.std.proofs.Common.{◌≡◌, true, is_some, Some, None, Ok, Err, Option, Result, refl}
 use Rattle.safety.proofs.Marks.{false_true}
 
 pub present_is : {A : Type 0} (o : Option A) → is_some o ≡ true → (a : A) × (o ≡ Some a)
@@ -10,4 +10,4 @@ pub ok_inj : {A B : Type 0} {x y : A} → ◌≡◌ {A = Result A B} (Ok x) (Ok 
 ok_inj e = cc
 
 pub err_ok : {A B : Type 0} {x : B} {y : A} → ◌≡◌ {A = Result A B} (Err x) (Ok y) → ⊥
-err_ok e = let z : ◌≡◌ {A = ℕ} 0 1 = cc in omega arith
+err_ok e = cc

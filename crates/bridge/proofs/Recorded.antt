@@ -84,17 +84,17 @@ module _ (carries : ℕ → ℕ → Bool) (grows : Grows carries) (meets : Meets
     -- ---- a member
     member_moves : (h : Head) (g : Gathered) (v : View) → p.mode ≡ Normal → p.component ≡ Some v → (n : ℕ) → n ≡ suc v.number.0 →
         Move post r (node_of p (in_stage (Gathering h g) w))
-        (recorded_node p (is_normal p.mode && w.up) n (Some (raised p.mark n)) h (confirming (either g.members.0 (single r))))
+        (recorded_node p (is_normal p.mode && w.up) n (Some (raised p.mark n)) h (confirming (either g.recorders.members.0 (single r))))
         (recorded_from r h (number n) ∷ [])
     member_moves h g v m i n e =
-        let more = either g.members.0 (single r) in
+        let more = either g.recorders.members.0 (single r) in
         let x : Node = node_of p (in_stage (Gathering h g) w) in
         let normal = is_normal p.mode && w.up in
         let n' = suc v.number.0 in
         subst (λ k. Move post r x (recorded_node p normal k (Some (raised p.mark k)) h (confirming more)) (recorded_from r h (number k) ∷ [])) (sym e)
         (subst (λ o. Move post r x (recorded_node p normal n' o h (confirming more)) (recorded_from r h (number n') ∷ []))
         (raised_is p.mark (suc v.number.0))
-        (member_records h v g.members.0 more (and_from (is_normal p.mode) w.up (ap is_normal m) up) refl i (adds_one g.members.0 r)))
+        (member_records h v g.recorders.members.0 more (and_from (is_normal p.mode) w.up (ap is_normal m) up) refl i (adds_one g.recorders.members.0 r)))
 
     member_enters : (h : Head) (g : Gathered) → p.mode ≡ Normal → (o : Option View) → p.component ≡ o → Enters p (in_stage (Gathering h g) w) (member_entry r p (in_stage (Gathering h g) w) h g (next_component o))
     member_enters h g m None i = nothing_entered p (in_stage (Gathering h g) w) up m

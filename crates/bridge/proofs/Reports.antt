@@ -1,5 +1,5 @@
 -- What the moves see of a round's reports. Assumes nothing.
-use Rattle.std.proofs.Common.{◌≡◌, ℕ, ◌<◌, true, false, cond, ltb, ◌≢◌, ◌⊎◌, List, length, get_or, set, replicate, Some, None, Option, sym, refl, ap, ◌∙◌, subst, inl, inr, ⊎_elim, arith}
+use Rattle.std.proofs.Common.{◌≡◌, ℕ, ◌<◌, true, false, if◌then◌else◌, ltb, ◌≢◌, ◌⊎◌, List, length, get_or, set, replicate, Some, None, Option, sym, refl, ap, ◌∙◌, subst, inl, inr, ⊎_elim, arith}
 use Rattle.std.proofs.lemmas.List.{get_or-set_same, get_or-set_other, get_or-replicate, length-replicate, set_past}
 use Rattle.std.proofs.lemmas.Bool.{cases_Bool, cases_eq, cases_lt, cond-true, cond-false, ltb-true, lt-ltb}
 use Rattle.rounds.specs.Reports.{reported}
@@ -34,7 +34,7 @@ seen_from rs q n e =
 
 -- with the report m of q: the others' stay, and q's is m or as before
 pub others_stay : (rs : List (Option Report)) (q p : ℕ) (m : Report) → p ≢ q → seen_reports (set rs q (Some m)) p ≡ seen_reports rs p
-others_stay rs q p m d = ap (λ o. cond (ltb p 16) (seen_option o) None) (get_or-set_other rs q p (Some m) None d)
+others_stay rs q p m d = ap (λ o. (if ltb p 16 then seen_option o else None)) (get_or-set_other rs q p (Some m) None d)
 
 at_set : (rs : List (Option Report)) (q : ℕ) (m : Report) → (reported (set rs q (Some m)) q ≡ Some m) ⊎ (reported (set rs q (Some m)) q ≡ reported rs q)
 at_set rs q m =

@@ -1,5 +1,5 @@
 -- Taking up a view is a chain of moves. Assumes nothing.
-use Rattle.std.proofs.Common.{◌≡◌, ℕ, ◌<◌, Bool, true, cond, List, [], ◌++◌, is_some, Some, None, Option, sym, refl, ap, ◌∙◌}
+use Rattle.std.proofs.Common.{◌≡◌, ℕ, ◌<◌, Bool, true, if◌then◌else◌, List, [], ◌++◌, is_some, Some, None, Option, sym, refl, ap, ◌∙◌}
 use Rattle.std.proofs.lemmas.Bool.{cond_both}
 use Rattle.quorum.specs.Below.{within}
 use Rattle.quorum.specs.Laws.{Grows, Meets}
@@ -55,7 +55,7 @@ module _ (carries : ℕ → ℕ → Bool) (grows : Grows carries) (meets : Meets
   member_goes : (p : Page) (w : Row) (h : Head) (c : View) → w.up ≡ true → r < 16 → p.mode ≡ Normal → p.component ≡ Some c →
       Goes (just_taken p w h) h (member_takes_up carries need r p w h c)
   member_goes p w h c up below m i =
-      cond_both (carries w.survivors.0 c.set.0) (cond (within h.set.0 w.survivors.0) recorded told) _ (Goes (just_taken p w h) h)
+      cond_both (carries w.survivors.0 c.set.0) (if within h.set.0 w.survivors.0 then recorded else told) _ (Goes (just_taken p w h) h)
       (λ _. cond_both (within h.set.0 w.survivors.0) recorded told (Goes (just_taken p w h) h)
       (λ _. quietly carries post r gathers (at_once carries grows meets need r post (again carries grows meets need r post p (gathering_row r w h) None (entry_of r p (gathering_row r w h)) (enters carries grows meets need r post p (gathering_row r w h) up m))))
       (λ _. quietly carries post r gathers (after carries grows meets need r post (tell_state h (gathering 0) c refl i) (judges carries grows meets need r post p (gathering_row r w h) (Some (state_message r h c w.survivors)) up m))))

@@ -1,6 +1,6 @@
 -- What the moves see of a page, a row, a message and a post. The rest (who is lost, who survives, States and Joins heard, newcomers'
 -- recordings, aborts) decides which moves a call makes, and bears on no finding. Assumes nothing.
-use Rattle.std.specs.Prelude.{ℕ, cond, ◌&&◌, List, [], ◌∷◌, ◌++◌, Some, None, Option, nat_lt}
+use Rattle.std.specs.Prelude.{ℕ, if◌then◌else◌, ◌&&◌, List, [], ◌∷◌, ◌++◌, Some, None, Option, nat_lt}
 use Rattle.stores.specs.declared.page.Page.{Page}
 use Rattle.stores.specs.declared.view.Head.{Head}
 use Rattle.stores.specs.declared.view.View.{View}
@@ -36,7 +36,7 @@ seen_option (Some m) = Some (seen_report m)
 
 -- the reports of a round, one for each of the sixteen replicas
 abbrev pub seen_reports : List (Option Report) → ℕ → Option Moves.Report
-seen_reports rs q = cond (nat_lt q 16) (seen_option (reported rs q)) None
+seen_reports rs q = if nat_lt q 16 then seen_option (reported rs q) else None
 
 -- of a reference its view
 abbrev pub seen_reference : Option Reference → Option View
@@ -46,10 +46,10 @@ seen_reference (Some x) = Some x.component
 -- how far the replica has come: of those heard only who recorded as a member
 abbrev pub seen_stage : Stage → Moves.Row
 seen_stage Idle = idle
-seen_stage (Gathering h g) = under h (gathering g.members.0)
-seen_stage (Confirming h g) = under h (confirming g.members.0)
+seen_stage (Gathering h g) = under h (gathering g.recorders.members.0)
+seen_stage (Confirming h g) = under h (confirming g.recorders.members.0)
 seen_stage (Applying h a) = under h (applying (seen_reference a.reference))
-seen_stage (Entering h e) = under h (entering e.reference.component e.members.0)
+seen_stage (Entering h e) = under h (entering e.reference.component e.recorders.members.0)
 seen_stage (Round h rs) = under h (round (seen_reports rs))
 
 -- a replica with this page and this row

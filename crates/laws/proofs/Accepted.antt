@@ -1,5 +1,5 @@
 -- What a call that is not refused has found. Assumes nothing.
-use Rattle.std.proofs.Common.{◌≡◌, ℕ, ◌<◌, true, not, ◌&&◌, ◌||◌, eqb, leb, Some, None, Ok, Option, sym, refl, ap, arith}
+use Rattle.std.proofs.Common.{◌≡◌, ℕ, ◌<◌, true, not, ◌&&◌, ◌||◌, eqb, leb, is_some, Some, None, Ok, Option, sym, refl, ap}
 use Rattle.std.proofs.lemmas.Bool.{and_parts, not-false, leb-false}
 use Rattle.quorum.specs.Members.{has}
 use Rattle.quorum.specs.declared.fault.Fault.{Fault}
@@ -13,7 +13,7 @@ use Rattle.stores.specs.Rules.{keeps_rules}
 use Rattle.stores.specs.Views.{same_head}
 use Rattle.stores.specs.declared.page.Page.{Page}
 use Rattle.stores.specs.declared.view.Head.{Head}
-use Rattle.manager.specs.Calls.{first_of, all_keep, offer_refusal, call_refusal, head_of, is_open, at_highest, announcement_refusal, view_refusal, message_refusal, head_refusal, delivery_refusal, party_refusal, lost_refusal, loss_refusal, start_refusal, unless_refused}
+use Rattle.manager.specs.Calls.{first_of, all_keep, offer_refusal, call_refusal, head_of, at_highest, announcement_refusal, view_refusal, message_refusal, head_refusal, delivery_refusal, party_refusal, lost_refusal, loss_refusal, start_refusal, unless_refused}
 use Rattle.manager.specs.Effects.{Effect}
 use Rattle.laws.proofs.Pages.{Tests, tests_of}
 use Rattle.laws.proofs.TakingUp.{Announced}
@@ -24,7 +24,7 @@ use Rattle.quorum.proofs.Refused.{neither, not_refused}
 -- ---- refusals that did not apply
 pub accepted : (o : Option Fault) (x e : Effect) → unless_refused o x ≡ Ok e → (o ≡ None) × (x ≡ e)
 accepted None x e d = (refl, cc)
-accepted (Some fault) x e d = absurd (let z : ◌≡◌ {A = ℕ} 0 1 = cc in omega arith)
+accepted (Some fault) x e d = absurd cc
 
 -- ---- every call
 pub record Offered (r : ℕ) (p : Page) (w : Row) : Type 0 where
@@ -48,7 +48,7 @@ announced r p w h e =
     let a = neither (call_refusal r p w) (announcement_refusal r p w h) e in
     let o = called r p w a.0 in
     let without = not (has h.set.0 r) in
-    let opened = is_open (head_of w.stage) in
+    let opened = is_some (head_of w.stage) in
     let behind = leb h.stamp.0 p.top.0 in
     let full = is_normal p.mode && at_highest p.component in
     let b = neither (refused_if without (refusal ViewWithoutReplica r))
@@ -72,7 +72,7 @@ pub record Arrived (r : ℕ) (p : Page) (w : Row) (m : Message) : Type 0 where
   pub head : head_of w.stage ≡ Some m.head
 
 under_its_head : (r : ℕ) (w : Row) (m : Message) (o : Option Head) → head_refusal r w m o ≡ None → o ≡ Some m.head
-under_its_head r w m None e = absurd (let z : ◌≡◌ {A = ℕ} 0 1 = cc in omega arith)
+under_its_head r w m None e = absurd cc
 under_its_head r w m (Some h) e =
     let a = neither (refused_if (not (same_head m.head h)) (refusal OtherHead r)) (refused_if (eqb m.sender r || has w.lost.0 m.sender) (refusal WrongParty r)) e in
     ap Some (sym ((decides_head m.head h).0 (not-false (same_head m.head h) (not_refused (not (same_head m.head h)) (refusal OtherHead r) a.0))))
@@ -91,10 +91,10 @@ arrived r p w m e =
 -- ---- a loss
 pub record Missed (r : ℕ) (p : Page) (w : Row) : Type 0 where
   pub offer : Offered r p w
-  pub opened : is_open (head_of w.stage) ≡ true
+  pub opened : is_some (head_of w.stage) ≡ true
 
-with_head : (r : ℕ) (w : Row) (q : ℕ) (o : Option Head) → party_refusal r w q o ≡ None → is_open o ≡ true
-with_head r w q None e = absurd (let z : ◌≡◌ {A = ℕ} 0 1 = cc in omega arith)
+with_head : (r : ℕ) (w : Row) (q : ℕ) (o : Option Head) → party_refusal r w q o ≡ None → is_some o ≡ true
+with_head r w q None e = absurd cc
 with_head r w q (Some h) e = refl
 
 pub missed : (r : ℕ) (p : Page) (w : Row) (q : ℕ) → loss_refusal r p w q ≡ None → Missed r p w

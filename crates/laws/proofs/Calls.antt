@@ -1,5 +1,5 @@
 -- The laws of the five calls. Assumes nothing.
-use Rattle.std.proofs.Common.{◌≡◌, ℕ, ◌<◌, ◌≤◌, Bool, true, false, Some, None, Ok, Err, Option, Result, sym, refl, ap, subst, inl, arith}
+use Rattle.std.proofs.Common.{◌≡◌, ℕ, ◌<◌, ◌≤◌, Bool, true, false, is_some, Some, None, Ok, Err, Option, Result, sym, refl, ap, subst, inl, arith}
 use Rattle.std.proofs.lemmas.Bool.{and_parts}
 use Rattle.quorum.specs.Members.{has}
 use Rattle.quorum.specs.declared.fault.Fault.{Fault}
@@ -19,7 +19,7 @@ use Rattle.stores.specs.declared.page.Mode.{Mode}
 use Rattle.stores.specs.declared.page.Mode.TheVariants.{Waiting, Joining, Normal, Reconfiguration}
 use Rattle.stores.specs.declared.page.Page.{Page}
 use Rattle.stores.specs.declared.view.Head.{Head}
-use Rattle.manager.specs.Calls.{head_of, is_open, report_message, following, losing, empty_row, started, call_refusal, view_refusal, delivery_refusal, loss_refusal, start_refusal, taking_up, viewed, heard_or_not, delivered_to, delivered, lost_at, stopped_at, started_at, page_left, row_left}
+use Rattle.manager.specs.Calls.{head_of, report_message, following, losing, empty_row, started, call_refusal, view_refusal, delivery_refusal, loss_refusal, start_refusal, taking_up, viewed, heard_or_not, delivered_to, delivered, lost_at, stopped_at, started_at, page_left, row_left}
 use Rattle.manager.specs.Effects.{Effect, effect, in_mode, in_stage, judged_after_loss, without_recording}
 use Rattle.manager.specs.Hearing.{Turn, hears}
 use Rattle.manager.specs.Verdicts.{verdict_of}
@@ -32,7 +32,8 @@ use Rattle.laws.proofs.Hearing.{HearingKeeps, HeardKeeps, heard_keeps}
 use Rattle.laws.proofs.Judged.{Stands, spares, closes, carried_posts}
 use Rattle.laws.proofs.Pages.{Tests, of_tests, started_tests}
 use Rattle.laws.proofs.Recording.{judges, judges_loss}
-use Rattle.laws.proofs.Rows.{row_parts, row_from, down_keeps, up_keeps}
+use Rattle.rows.proofs.Facts.{row_parts, row_from}
+use Rattle.laws.proofs.Rows.{down_keeps, up_keeps}
 use Rattle.laws.proofs.TakingUp.{advances_itself, takes_up}
 
 -- ---- an accepted call was offered a page and a row that keep the rules
@@ -69,11 +70,11 @@ follows_hearing f need r head p w h up lost st i Answered x = judges f need r he
 follows_hearing f need r head p w h up lost st i Outdone x = spares r head p p w Nothing (st Nothing) tt Spare None (inl refl)
 follows_hearing f need r head p w h up lost st i Aborted x = closes r head p p w Nothing (st Nothing) tt x
 
-heard_lawful : (f : ℕ → ℕ → Bool) (need : Need) (r : ℕ) (p : Page) (w : Row) (h : Head) (e : Effect) → Offered r p w → head_of w.stage ≡ Some h → (x : Result Turn Reason) →
+heard_lawful : (f : ℕ → ℕ → Bool) (need : Need) (r : ℕ) (p : Page) (w : Row) (h : Head) (e : Effect) → Offered r p w → head_of w.stage ≡ Some h → (x : Result (Turn Stage) Reason) →
     HeardKeeps r p (head_of w.stage) w.up w.lost x → heard_or_not f need r p w h x ≡ Ok e → Lawful r (head_of w.stage) p e
-heard_lawful f need r p w h e o i (Err reason) k d = absurd (let z : ◌≡◌ {A = ℕ} 0 1 = cc in omega arith)
+heard_lawful f need r p w h e o i (Err reason) k d = absurd cc
 heard_lawful f need r p w h e o i (Ok t) k d =
-    let x = in_stage t.stage w in
+    let x = in_stage t.left w in
     let same : following f need r p x h t.hearing ≡ e = cc in
     let keep : row_keeps r p x ≡ true = row_from r p x (row_parts r p w o.row).0 k.stage in
     subst (Lawful r (head_of w.stage) p) same
@@ -90,7 +91,7 @@ under_same m o k e h d =
 
 delivered_so : (f : ℕ → ℕ → Bool) (need : Need) (r : ℕ) (p : Page) (w : Row) (m : Message) (e : Effect) (o : Option Fault) → delivery_refusal r p w m ≡ o → delivered_to f need r p w m o ≡ Ok e →
     Lawful r (head_of w.stage) p e
-delivered_so f need r p w m e (Some fault) i d = absurd (let z : ◌≡◌ {A = ℕ} 0 1 = cc in omega arith)
+delivered_so f need r p w m e (Some fault) i d = absurd cc
 delivered_so f need r p w m e None i d =
     let a = arrived r p w m i in
     heard_lawful f need r p w m.head e a.offer a.head (hears p w m.sender m.body)
@@ -101,7 +102,7 @@ unfolding delivered
 delivered_lawful f need r p w m e d = delivered_so f need r p w m e (delivery_refusal r p w m) refl d
 
 arrived_so : (f : ℕ → ℕ → Bool) (need : Need) (r : ℕ) (p : Page) (w : Row) (m : Message) (e : Effect) (o : Option Fault) → delivery_refusal r p w m ≡ o → delivered_to f need r p w m o ≡ Ok e → Arrived r p w m
-arrived_so f need r p w m e (Some fault) i d = absurd (let z : ◌≡◌ {A = ℕ} 0 1 = cc in omega arith)
+arrived_so f need r p w m e (Some fault) i d = absurd cc
 arrived_so f need r p w m e None i d = arrived r p w m i
 
 pub delivered_found : (f : ℕ → ℕ → Bool) (need : Need) (r : ℕ) (p : Page) (w : Row) (m : Message) (e : Effect) → delivered f need r p w m ≡ Ok e → Found r p w × (message_keeps m ≡ true)
@@ -111,8 +112,8 @@ delivered_found f need r p w m e d =
 
 -- ---- a replica of the head is lost
 -- with the head open, a row's rules say nothing of the lost
-losing_stage : (r : ℕ) (p : Page) (up : Bool) (a b : ReplicaSet) (s : Stage) → is_open (head_of s) ≡ true → stage_keeps r p up a s ≡ true → stage_keeps r p up b s ≡ true
-losing_stage r p up a b Idle e k = absurd (let z : ◌≡◌ {A = ℕ} 0 1 = cc in omega arith)
+losing_stage : (r : ℕ) (p : Page) (up : Bool) (a b : ReplicaSet) (s : Stage) → is_some (head_of s) ≡ true → stage_keeps r p up a s ≡ true → stage_keeps r p up b s ≡ true
+losing_stage r p up a b Idle e k = absurd cc
 losing_stage r p up a b (Gathering h g) e k = k
 losing_stage r p up a b (Confirming h g) e k = k
 losing_stage r p up a b (Applying h g) e k = k

@@ -1,5 +1,5 @@
 -- What is heard leaves the row within its rules, and what is answered keeps the message rules. Assumes nothing.
-use Rattle.std.proofs.Common.{◌≡◌, ℕ, ◌<◌, Bool, true, false, cond, not, ◌&&◌, ltb, List, length, set, is_some, Some, None, Ok, Err, Option, Result, refl, ap, ◌∙◌, subst, ⊎_elim, arith}
+use Rattle.std.proofs.Common.{◌≡◌, ℕ, ◌<◌, Bool, true, false, if◌then◌else◌, not, ◌&&◌, ltb, List, length, set, is_some, Some, None, Ok, Err, Option, Result, refl, ap, ◌∙◌, subst, ⊎_elim, arith}
 use Rattle.std.proofs.lemmas.List.{get_or-set_same, get_or-set_other, set_past}
 use Rattle.std.proofs.lemmas.Bool.{and_from, and_parts, not_from_true, cases_eq, cases_lt}
 use Rattle.std.proofs.lemmas.Bool.Decides.{nat_tests}
@@ -10,15 +10,17 @@ use Rattle.quorum.specs.declared.fault.Reason.{Reason}
 use Rattle.quorum.specs.declared.set.ReplicaSet.{ReplicaSet}
 use Rattle.rounds.specs.Reports.{reported}
 use Rattle.rounds.specs.declared.report.Report.{Report}
+use Rattle.rows.specs.Recorders.{all_recorders, recorders_within, recorders_with}
 use Rattle.rows.specs.Messages.{reporting_mode, reported_page, report_keeps, body_keeps, message_keeps}
 use Rattle.rows.specs.Rows.{is_joining, is_reconfiguration, reference_keeps, under_head, not_later, report_breaks, stage_keeps}
 use Rattle.rows.specs.declared.message.Body.{Body}
 use Rattle.rows.specs.declared.message.Body.TheVariants.{State, Abort, Join, Recorded, Report as Reports}
-use Rattle.rows.specs.declared.message.Part.TheVariants.{Member, Newcomer}
 use Rattle.rows.specs.declared.row.Applied.{Applied}
 use Rattle.rows.specs.declared.row.Confirmed.{Confirmed}
 use Rattle.rows.specs.declared.row.Entered.{Entered}
 use Rattle.rows.specs.declared.row.Gathered.{Gathered}
+use Rattle.rows.specs.declared.message.Part.{Part}
+use Rattle.rows.specs.declared.row.Recorders.{Recorders}
 use Rattle.rows.specs.declared.row.Reference.{Reference}
 use Rattle.rows.specs.declared.row.Row.{Row}
 use Rattle.rows.specs.declared.row.Stage.{Stage}
@@ -29,12 +31,12 @@ use Rattle.stores.specs.declared.view.Head.{Head}
 use Rattle.stores.specs.declared.view.Recorded.{Recorded as RecordedView}
 use Rattle.stores.specs.declared.view.View.{View}
 use Rattle.manager.specs.Calls.{head_of, report_of, report_message}
-use Rattle.manager.specs.Hearing.{Turn, heard_if, one_above, as_recorded, as_component, reaches_mark, as_reference, fixed, gathered_state, gathered_recorded, gathered_answer, hears_gathering, confirmed_recorded, confirmed_answer, hears_confirming, applied_state, applied_join, hears_applying, entered_recorded, hears_entering, outdoes, hears_round, hears_stage, hears}
+use Rattle.manager.specs.Hearing.{Turn, heard_if, turned, one_above, as_recorded, as_component, reaches_mark, as_reference, fixed, gathered_state, gathered_recorded, gathered_answer, hears_gathering, confirmed_recorded, confirmed_answer, hears_confirming, applied_state, applied_join, hears_applying, entered_recorded, hears_entering, outdoes, hears_round, hears_stage, hears}
 use Rattle.manager.specs.declared.hearing.Hearing.{Hearing}
 use Rattle.manager.specs.declared.hearing.Hearing.TheVariants.{Heard, Answered, Outdone, Aborted}
 use Rattle.laws.proofs.Pages.{Tests, of_tests, reported_tests}
-use Rattle.laws.proofs.Rows.{GatheringFacts, gathering_from, gathering_back, ConfirmingFacts, confirming_from, confirming_back, ApplyingFacts, applying_from, applying_back, EnteringFacts, entering_from, entering_back, RoundFacts, round_from, round_back, mode_normal, mode_waiting}
-use Rattle.laws.proofs.Subsets.{within_added, within_less}
+use Rattle.rows.proofs.Facts.{GatheringFacts, gathering_from, gathering_back, ConfirmingFacts, confirming_from, confirming_back, ApplyingFacts, applying_from, applying_back, EnteringFacts, entering_from, entering_back, RoundFacts, round_from, round_back, mode_normal, mode_waiting}
+use Rattle.laws.proofs.Subsets.{within_added, within_less, recorders_added}
 
 -- a report more, of a member of the head
 pub one_more : (h : Head) (q : ℕ) (rs : List (Option Report)) (m : Report) → has h.set.0 q ≡ true → report_keeps q h m ≡ true →
@@ -69,23 +71,26 @@ module _ (r : ℕ) (p : Page) (head : Option Head) (up : Bool) (lost : ReplicaSe
   HearingKeeps Outdone = Unit {0}
   HearingKeeps Aborted = is_joining p.mode ≡ false
 
-  pub record TurnKeeps (t : Turn) : Type 0 where
-    pub stage : stage_keeps r p up lost t.stage ≡ true
-    pub same : head ≡ head_of t.stage
+  pub record TurnKeeps (t : Turn Stage) : Type 0 where
+    pub stage : stage_keeps r p up lost t.left ≡ true
+    pub same : head ≡ head_of t.left
     pub hearing : HearingKeeps t.hearing
 
-  abbrev pub HeardKeeps : Result Turn Reason → Type 0
+  abbrev pub HeardKeeps : Result (Turn Stage) Reason → Type 0
   HeardKeeps (Err reason) = Unit {0}
   HeardKeeps (Ok t) = TurnKeeps t
 
-  heard : (a b : Bool) (s : Stage) (k : Hearing) → TurnKeeps (record { stage = s; hearing = k }) → HeardKeeps (heard_if a b s k)
-  heard false b s k x = tt
-  heard true true s k x = tt
-  heard true false s k x = x
+  heard : {A : Type 0} (stage : A → Stage) (a b : Bool) (x : A) (k : Hearing) → TurnKeeps (record { left = stage x; hearing = k }) → HeardKeeps (turned stage (heard_if a b x k))
+  heard stage false b x k t = tt
+  heard stage true true x k t = tt
+  heard stage true false x k t = t
 
   module _ (tests : Tests r p) (h : Head) (q : ℕ) (open_head : head ≡ Some h) (sender : has h.set.0 q ≡ true) where
     added : (s : ReplicaSet) → within s.0 h.set.0 ≡ true → within (either s.0 (single q)) h.set.0 ≡ true
     added s i = within_added s.0 h.set.0 q i sender
+
+    more : (x : Recorders) (part : Part) → recorders_within x h.set.0 ≡ true → recorders_within (recorders_with x q part) h.set.0 ≡ true
+    more x part i = recorders_added x h.set.0 q part i sender
 
     answer : has h.set.0 r ≡ true → reporting_mode p.mode ≡ true → not_later h p.recorded ≡ true → HearingKeeps Answered
     answer i m n k e = subst (λ (x : Head). message_keeps (report_message r x p) ≡ true) (same_head_of e) (report_told r p h i (report_kept r p h tests m n))
@@ -94,67 +99,50 @@ module _ (r : ℕ) (p : Page) (head : Option Head) (up : Bool) (lost : ReplicaSe
         same_head_of e = cc
 
     -- ---- gathering
-    gathering_hears : (survivors : ReplicaSet) (g : Gathered) (b : Body) → GatheringFacts r p h g → HeardKeeps (hears_gathering p survivors h g q b)
+    gathering_hears : (survivors : ReplicaSet) (g : Gathered) (b : Body) → GatheringFacts r p h g → HeardKeeps (turned (Gathering h) (hears_gathering p survivors g q b))
     gathering_hears survivors g (State c s) f =
-        heard (has survivors.0 q && as_component p.component c) (has g.states.0 q) (Gathering h (gathered_state g q)) Heard
+        heard (Gathering h) (has survivors.0 q && as_component p.component c) (has g.states.0 q) (gathered_state g q) Heard
         (record {
           stage = gathering_back r p h (gathered_state g q)
-              (record { normal = f.normal; head = f.head; next = f.next; later = f.later; states = added g.states f.states; members = f.members; newcomers = f.newcomers });
+              (record { normal = f.normal; head = f.head; next = f.next; later = f.later; states = added g.states f.states; recorders = f.recorders });
           same = open_head;
           hearing = tt;
         })
     gathering_hears survivors g Abort f = tt
     gathering_hears survivors g Join f = tt
-    gathering_hears survivors g (Recorded n Member) f =
-        heard (one_above p.component n) (has (either g.members.0 g.newcomers.0) q) (Gathering h (gathered_recorded g q Member)) Heard
+    gathering_hears survivors g (Recorded n part) f =
+        heard (Gathering h) (one_above p.component n) (has (all_recorders g.recorders) q) (gathered_recorded g q part) Heard
         (record {
-          stage = gathering_back r p h (gathered_recorded g q Member)
-              (record { normal = f.normal; head = f.head; next = f.next; later = f.later; states = f.states; members = added g.members f.members; newcomers = f.newcomers });
-          same = open_head;
-          hearing = tt;
-        })
-    gathering_hears survivors g (Recorded n Newcomer) f =
-        heard (one_above p.component n) (has (either g.members.0 g.newcomers.0) q) (Gathering h (gathered_recorded g q Newcomer)) Heard
-        (record {
-          stage = gathering_back r p h (gathered_recorded g q Newcomer)
-              (record { normal = f.normal; head = f.head; next = f.next; later = f.later; states = f.states; members = f.members; newcomers = added g.newcomers f.newcomers });
+          stage = gathering_back r p h (gathered_recorded g q part)
+              (record { normal = f.normal; head = f.head; next = f.next; later = f.later; states = f.states; recorders = more g.recorders part f.recorders });
           same = open_head;
           hearing = tt;
         })
     gathering_hears survivors g (Reports m) f =
-        heard (is_reconfiguration m.mode) g.answered (Gathering h (gathered_answer g)) Answered
+        heard (Gathering h) (is_reconfiguration m.mode) g.answered (gathered_answer g) Answered
         (record {
-          stage = gathering_back r p h (gathered_answer g)
-              (record { normal = f.normal; head = f.head; next = f.next; later = f.later; states = f.states; members = f.members; newcomers = f.newcomers });
+          stage = gathering_back r p h g f;
           same = open_head;
           hearing = answer f.head.holds (ap reporting_mode (mode_normal p.mode f.normal)) f.later;
         })
 
     -- ---- confirming
-    confirming_hears : (g : Confirmed) (b : Body) → ConfirmingFacts r p h g → HeardKeeps (hears_confirming p h g q b)
+    confirming_hears : (g : Confirmed) (b : Body) → ConfirmingFacts r p h g → HeardKeeps (turned (Confirming h) (hears_confirming p g q b))
     confirming_hears g (State c s) f = tt
     confirming_hears g Abort f = tt
     confirming_hears g Join f = tt
-    confirming_hears g (Recorded n Member) f =
-        heard (as_recorded p.recorded n) (has (either g.members.0 g.newcomers.0) q) (Confirming h (confirmed_recorded g q Member)) Heard
+    confirming_hears g (Recorded n part) f =
+        heard (Confirming h) (as_recorded p.recorded n) (has (all_recorders g.recorders) q) (confirmed_recorded g q part) Heard
         (record {
-          stage = confirming_back r p h (confirmed_recorded g q Member)
-              (record { normal = f.normal; head = f.head; under = f.under; members = added g.members f.members; newcomers = f.newcomers });
-          same = open_head;
-          hearing = tt;
-        })
-    confirming_hears g (Recorded n Newcomer) f =
-        heard (as_recorded p.recorded n) (has (either g.members.0 g.newcomers.0) q) (Confirming h (confirmed_recorded g q Newcomer)) Heard
-        (record {
-          stage = confirming_back r p h (confirmed_recorded g q Newcomer)
-              (record { normal = f.normal; head = f.head; under = f.under; members = f.members; newcomers = added g.newcomers f.newcomers });
+          stage = confirming_back r p h (confirmed_recorded g q part)
+              (record { normal = f.normal; head = f.head; under = f.under; recorders = more g.recorders part f.recorders });
           same = open_head;
           hearing = tt;
         })
     confirming_hears g (Reports m) f =
-        heard (is_reconfiguration m.mode) g.answered (Confirming h (confirmed_answer g)) Answered
+        heard (Confirming h) (is_reconfiguration m.mode) g.answered (confirmed_answer g) Answered
         (record {
-          stage = confirming_back r p h (confirmed_answer g) (record { normal = f.normal; head = f.head; under = f.under; members = f.members; newcomers = f.newcomers });
+          stage = confirming_back r p h g f;
           same = open_head;
           hearing = answer f.head.holds (ap reporting_mode (mode_normal p.mode f.normal)) (under_not_later h p.recorded f.under);
         })
@@ -164,11 +152,11 @@ module _ (r : ℕ) (p : Page) (head : Option Head) (up : Bool) (lost : ReplicaSe
     reference_fixed None c s k l = l
     reference_fixed (Some x) c s k l = k
 
-    applying_hears : (a : Applied) (b : Body) → body_keeps q h b ≡ true → ApplyingFacts r p h a → HeardKeeps (hears_applying p h a q b)
+    applying_hears : (a : Applied) (b : Body) → body_keeps q h b ≡ true → ApplyingFacts r p h a → HeardKeeps (turned (Applying h) (hears_applying p a q b))
     applying_hears a (State c s) k f =
         let x = and_parts _ (within s.0 h.set.0) k in
         let y = and_parts (ltb c.number.0 1000000000) (within s.0 c.set.0) x.0 in
-        heard (reaches_mark p.mark c.number && as_reference a.reference c) (has a.states.0 q) (Applying h (applied_state a q c s)) Heard
+        heard (Applying h) (reaches_mark p.mark c.number && as_reference a.reference c) (has a.states.0 q) (applied_state a q c s) Heard
         (record {
           stage = applying_back r p h (applied_state a q c s)
               (record { waiting = f.waiting; head = f.head; reference = reference_fixed a.reference c s f.reference y.0; sources = f.sources; joins = f.joins; states = added a.states f.states });
@@ -177,7 +165,7 @@ module _ (r : ℕ) (p : Page) (head : Option Head) (up : Bool) (lost : ReplicaSe
         })
     applying_hears a Abort k f = record { stage = applying_back r p h a f; same = open_head; hearing = ap is_joining (mode_waiting p.mode f.waiting) }
     applying_hears a Join k f =
-        heard (not (is_some a.reference)) (has a.joins.0 q) (Applying h (applied_join a q)) Heard
+        heard (Applying h) (not (is_some a.reference)) (has a.joins.0 q) (applied_join a q) Heard
         (record {
           stage = applying_back r p h (applied_join a q)
               (record { waiting = f.waiting; head = f.head; reference = f.reference; sources = within_less a.sources.0 (single q) h.set.0 f.sources; joins = added a.joins f.joins; states = f.states });
@@ -188,40 +176,32 @@ module _ (r : ℕ) (p : Page) (head : Option Head) (up : Bool) (lost : ReplicaSe
     applying_hears a (Reports m) k f = tt
 
     -- ---- entering
-    entering_hears : (e : Entered) (b : Body) → EnteringFacts r p h e → HeardKeeps (hears_entering p h e q b)
+    entering_hears : (e : Entered) (b : Body) → EnteringFacts r p h e → HeardKeeps (turned (Entering h) (hears_entering p e q b))
     entering_hears e (State c s) f = tt
     entering_hears e Abort f = tt
     entering_hears e Join f = tt
-    entering_hears e (Recorded n Member) f =
-        heard (as_recorded p.recorded n) (has (either e.members.0 e.newcomers.0) q) (Entering h (entered_recorded e q Member)) Heard
+    entering_hears e (Recorded n part) f =
+        heard (Entering h) (as_recorded p.recorded n) (has (all_recorders e.recorders) q) (entered_recorded e q part) Heard
         (record {
-          stage = entering_back r p h (entered_recorded e q Member)
-              (record { joining = f.joining; head = f.head; under = f.under; reference = f.reference; members = added e.members f.members; newcomers = f.newcomers });
-          same = open_head;
-          hearing = tt;
-        })
-    entering_hears e (Recorded n Newcomer) f =
-        heard (as_recorded p.recorded n) (has (either e.members.0 e.newcomers.0) q) (Entering h (entered_recorded e q Newcomer)) Heard
-        (record {
-          stage = entering_back r p h (entered_recorded e q Newcomer)
-              (record { joining = f.joining; head = f.head; under = f.under; reference = f.reference; members = f.members; newcomers = added e.newcomers f.newcomers });
+          stage = entering_back r p h (entered_recorded e q part)
+              (record { joining = f.joining; head = f.head; under = f.under; reference = f.reference; recorders = more e.recorders part f.recorders });
           same = open_head;
           hearing = tt;
         })
     entering_hears e (Reports m) f = tt
 
     -- ---- a round
-    outdone_or_heard : (b : Bool) → HearingKeeps (cond b Outdone Heard)
+    outdone_or_heard : (b : Bool) → HearingKeeps (if b then Outdone else Heard)
     outdone_or_heard true = tt
     outdone_or_heard false = tt
 
-    round_hears : (rs : List (Option Report)) (b : Body) → body_keeps q h b ≡ true → RoundFacts r p h rs → HeardKeeps (hears_round p h rs q b)
+    round_hears : (rs : List (Option Report)) (b : Body) → body_keeps q h b ≡ true → RoundFacts r p h rs → HeardKeeps (turned (Round h) (hears_round p rs q b))
     round_hears rs (State c s) k f = tt
     round_hears rs Abort k f = tt
     round_hears rs Join k f = tt
     round_hears rs (Recorded n part) k f = tt
     round_hears rs (Reports m) k f =
-        heard true (is_some (reported rs q)) (Round h (set rs q (Some m))) (cond (outdoes p m) Outdone Heard)
+        heard (Round h) true (is_some (reported rs q)) (set rs q (Some m)) (if outdoes p m then Outdone else Heard)
         (record {
           stage = round_back r p h (set rs q (Some m))
               (record { reconfiguration = f.reconfiguration; head = f.head; reports = one_more h q rs m sender k f.reports });

@@ -1,5 +1,5 @@
 -- Judging a head: what each verdict rests on, and what it leaves. Assumes nothing.
-use Rattle.std.proofs.Common.{◌≡◌, ℕ, ◌+◌, Bool, true, false, cond, ◌||◌, eqb, ltb, ◌⊎◌, is_some, Some, None, Option, refl, ap, ◌∙◌, inl, inr, ⊎_elim, arith}
+use Rattle.std.proofs.Common.{◌≡◌, ℕ, ◌+◌, Bool, true, false, if◌then◌else◌, ◌||◌, eqb, ltb, ◌⊎◌, is_some, Some, None, Option, refl, ap, ◌∙◌, inl, inr, ⊎_elim, arith}
 use Rattle.std.proofs.lemmas.Bool.{cond_both, eqb-true, and_parts}
 use Rattle.quorum.specs.Below.{within}
 use Rattle.quorum.specs.Members.{has, size}
@@ -30,7 +30,8 @@ use Rattle.manager.specs.declared.verdict.Verdict.{Verdict}
 use Rattle.manager.specs.declared.verdict.Verdict.TheVariants.{Stays, Records, Installs, Reconfigures, Closes, Forgets, Ends}
 use Rattle.laws.specs.Laws.{PostsKeep, NotLower, Advances, Lawful, last_of, WithoutReplica}
 use Rattle.laws.proofs.Pages.{Tests, of_tests, installed_tests, settled_tests, spare_tests, reconfigured_tests, has_view, joining_recorded, forgotten_tests}
-use Rattle.laws.proofs.Rows.{row_parts, GatheringFacts, gathering_from, ConfirmingFacts, confirming_from, applying_from, entering_from, round_from, mode_normal, mode_waiting, mode_joining, mode_reconfiguration, closed_keeps, component_keeps, spare_keeps}
+use Rattle.rows.proofs.Facts.{row_parts, GatheringFacts, gathering_from, ConfirmingFacts, confirming_from, applying_from, entering_from, round_from, mode_normal, mode_waiting, mode_joining, mode_reconfiguration}
+use Rattle.laws.proofs.Rows.{closed_keeps, component_keeps, spare_keeps}
 use Rattle.laws.proofs.Settled.{Numbered, end_numbered}
 
 -- ---- what a verdict rests on, of the head and page that are judged
@@ -44,17 +45,17 @@ Fits head p Forgets = is_joining p.mode ≡ true
 Fits head p (Ends o v) = (is_joining p.mode ≡ false) × Numbered v
 
 apart : (m : Mode) → m ≡ Normal → m ≡ Waiting → ⊥
-apart m a b = let z : ◌≡◌ {A = ℕ} 0 1 = cc in omega arith
+apart m a b = cc
 
 joining_apart : (m : Mode) → m ≡ Joining → m ≡ Waiting → ⊥
-joining_apart m a b = let z : ◌≡◌ {A = ℕ} 0 1 = cc in omega arith
+joining_apart m a b = cc
 
 carrying_fits : (head : Option Head) (p : Page) (f : ℕ → ℕ → Bool) (heard survivors lost set : ℕ) → Fits head p Installs → (is_some p.component || is_some p.recorded) ≡ true → Fits head p (carrying_verdict f heard survivors lost set)
 carrying_fits head p f heard survivors lost set i x =
-    cond_both (f heard set) Installs (cond (f (either heard (less survivors lost)) set) Stays Reconfigures) (Fits head p) (λ _. i)
+    cond_both (f heard set) Installs (if f (either heard (less survivors lost)) set then Stays else Reconfigures) (Fits head p) (λ _. i)
     (λ _. cond_both (f (either heard (less survivors lost)) set) Stays Reconfigures (Fits head p) (λ _. tt) (λ _. x))
 
-gathering_chain : (head : Option Head) (p : Page) (a b c d : Bool) → Fits head p Reconfigures → Fits head p Closes → Fits head p (cond a Reconfigures (cond b Stays (cond c Records (cond d Stays Closes))))
+gathering_chain : (head : Option Head) (p : Page) (a b c d : Bool) → Fits head p Reconfigures → Fits head p Closes → Fits head p (if a then Reconfigures else if b then Stays else if c then Records else if d then Stays else Closes)
 gathering_chain head p true b c d x y = x
 gathering_chain head p false true c d x y = tt
 gathering_chain head p false false true d x y = tt
@@ -67,28 +68,28 @@ gathering_fits head r p need survivors lost h g t k None = tt
 gathering_fits head r p need survivors lost h g t k (Some c) =
     let m = mode_normal p.mode k.normal in
     let needed = need_of need (size c.set.0) in
-    let missing = unheard h survivors g.members.0 g.newcomers.0 in
+    let missing = unheard h survivors g.recorders in
     gathering_chain head p (ltb (size (either g.states.0 (less survivors lost))) needed) (ltb (size g.states.0) needed) (nobody missing) (nobody (both missing lost))
     (has_view r p t (apart p.mode m)) (ap is_joining m)
 
 confirming_fits : (head : Option Head) (r : ℕ) (p : Page) (f : ℕ → ℕ → Bool) (survivors lost : ℕ) (h : Head) (g : Confirmed) → head ≡ Some h → Tests r p → ConfirmingFacts r p h g → (o : Option View) →
-    Fits head p (with_component o (λ c. carrying_verdict f (both g.members.0 survivors) survivors lost c.set.0))
+    Fits head p (with_component o (λ c. carrying_verdict f (both g.recorders.members.0 survivors) survivors lost c.set.0))
 confirming_fits head r p f survivors lost h g e t k None = tt
 confirming_fits head r p f survivors lost h g e t k (Some c) =
-    carrying_fits head p f (both g.members.0 survivors) survivors lost c.set.0 (h, e, k.under) (has_view r p t (apart p.mode (mode_normal p.mode k.normal)))
+    carrying_fits head p f (both g.recorders.members.0 survivors) survivors lost c.set.0 (h, e, k.under) (has_view r p t (apart p.mode (mode_normal p.mode k.normal)))
 
-applying_chain : (head : Option Head) (p : Page) (a b c : Bool) → Fits head p Closes → Fits head p (cond a Records (cond b Closes (cond c Closes Stays)))
+applying_chain : (head : Option Head) (p : Page) (a b c : Bool) → Fits head p Closes → Fits head p (if a then Records else if b then Closes else if c then Closes else Stays)
 applying_chain head p true b c x = tt
 applying_chain head p false true c x = x
 applying_chain head p false false true x = x
 applying_chain head p false false false x = tt
 
-entering_chain : (head : Option Head) (p : Page) (v : Verdict) (a b : Bool) → Fits head p v → Fits head p Forgets → Fits head p (cond a v (cond b Stays Forgets))
+entering_chain : (head : Option Head) (p : Page) (v : Verdict) (a b : Bool) → Fits head p v → Fits head p Forgets → Fits head p (if a then v else if b then Stays else Forgets)
 entering_chain head p v true b x y = x
 entering_chain head p v false true x y = tt
 entering_chain head p v false false x y = y
 
-round_chain : (head : Option Head) (p : Page) (o : Outcome) (v : Option View) (a b : Bool) → is_joining p.mode ≡ false → Numbered v → Fits head p (cond a (cond b (Ends o v) Stays) (Ends LostMember None))
+round_chain : (head : Option Head) (p : Page) (o : Outcome) (v : Option View) (a b : Bool) → is_joining p.mode ≡ false → Numbered v → Fits head p (if a then (if b then Ends o v else Stays) else Ends LostMember None)
 round_chain head p o v true true j n = (j, n)
 round_chain head p o v true false j n = tt
 round_chain head p o v false b j n = (j, tt)
@@ -105,9 +106,9 @@ stage_fits head f need r p survivors lost up l (Entering h e) i t k =
     let x = entering_from r p h e k in
     let j = x.joining in
     let s = e.reference.survivors.0 in
-    let missing = unheard h s e.members.0 e.newcomers.0 in
-    entering_chain head p (carrying_verdict f (both e.members.0 s) s lost e.reference.component.set.0) (nobody missing) (nobody (both missing lost))
-    (carrying_fits head p f (both e.members.0 s) s lost e.reference.component.set.0 (h, i, x.under) (has_view r p t (joining_apart p.mode (mode_joining p.mode j)))) j
+    let missing = unheard h s e.recorders in
+    entering_chain head p (carrying_verdict f (both e.recorders.members.0 s) s lost e.reference.component.set.0) (nobody missing) (nobody (both missing lost))
+    (carrying_fits head p f (both e.recorders.members.0 s) s lost e.reference.component.set.0 (h, i, x.under) (has_view r p t (joining_apart p.mode (mode_joining p.mode j)))) j
 stage_fits head f need r p survivors lost up l (Round h rs) i t k =
     let x = round_from r p h rs k in
     round_chain head p (round_end f h rs).0 (round_end f h rs).1 (nobody lost) (within h.set.0 (heard_of rs))

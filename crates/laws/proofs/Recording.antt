@@ -2,10 +2,10 @@
 use Rattle.std.proofs.Common.{◌≡◌, ℕ, ◌+◌, ◌<◌, ◌≤◌, Bool, true, ◌&&◌, ltb, leb, is_some, Some, None, Option, sym, refl, ap, ◌∙◌, inr, arith}
 use Rattle.std.proofs.lemmas.Bool.{cond_both, eq-eqb, and_from, ltb-true, le-leb}
 use Rattle.quorum.specs.Members.{has}
-use Rattle.quorum.specs.Sets.{either, single}
 use Rattle.quorum.specs.declared.set.ReplicaSet.{ReplicaSet}
 use Rattle.rounds.proofs.Highest.{some_same, none_some}
 use Rattle.rows.specs.Messages.{message_keeps}
+use Rattle.rows.specs.Recorders.{no_recorders, recorders_with}
 use Rattle.rows.specs.Rows.{reference_keeps, stage_keeps}
 use Rattle.rows.specs.declared.message.Message.{Message}
 use Rattle.rows.specs.declared.message.Part.{Part}
@@ -33,8 +33,8 @@ use Rattle.manager.specs.declared.verdict.Verdict.TheVariants.{Stays, Records, I
 use Rattle.laws.specs.Laws.{PostsKeep, last_of, Lawful}
 use Rattle.laws.proofs.Judged.{Fits, verdict_fits, without_fits, Stands, advances_raised, carried}
 use Rattle.laws.proofs.Pages.{recording_tests}
-use Rattle.laws.proofs.Rows.{row_parts, row_from, HeadFacts, GatheringFacts, gathering_from, confirming_back, applying_from, entering_back, mode_normal, mode_waiting}
-use Rattle.laws.proofs.Subsets.{within_none, within_alone, within_added}
+use Rattle.rows.proofs.Facts.{row_parts, row_from, HeadFacts, GatheringFacts, gathering_from, confirming_back, applying_from, entering_back, mode_normal, mode_waiting}
+use Rattle.laws.proofs.Subsets.{recorders_none, recorders_added}
 
 -- ---- messages
 -- a message, if there is one, keeps the rules
@@ -83,13 +83,12 @@ module _ (r : ℕ) (head : Option Head) (q p : Page) (w : Row) (first : Option M
         stands = record {
           page = recording_tests r p.mode p h n fits hf.holds hf.stamped (omega arith) (omega arith) same (st Nothing).page;
           row = row_from r (recording p.mode p h n) (member_row r w h g) (row_parts r p w (st Nothing).row).0
-              (confirming_back r (recording p.mode p h n) h (record { members = record { 0 = either g.members.0 (single r) }; newcomers = g.newcomers; answered = g.answered })
+              (confirming_back r (recording p.mode p h n) h (record { recorders = recorders_with g.recorders r Member; answered = g.answered })
               (record {
                 normal = k.normal;
                 head = record { holds = hf.holds; stamped = hf.stamped };
                 under = and_from _ _ (eq-eqb h.stamp.0 h.stamp.0 refl) (eq-eqb h.set.0 h.set.0 refl);
-                members = within_added g.members.0 h.set.0 r k.members hf.holds;
-                newcomers = k.newcomers;
+                recorders = recorders_added g.recorders h.set.0 r Member k.recorders hf.holds;
               }));
           same = under;
           advances = record { top = (st Nothing).advances.top; mark = advances_raised q p n (st Nothing).advances };
@@ -110,7 +109,7 @@ module _ (r : ℕ) (head : Option Head) (q p : Page) (w : Row) (first : Option M
     where
       absent : (o : Option View) (s : Bool) → mode_fits Waiting (is_some o) s ≡ true → o ≡ None
       absent None s e = refl
-      absent (Some v) s e = absurd (let z : ◌≡◌ {A = ℕ} 0 1 = cc in omega arith)
+      absent (Some v) s e = absurd cc
 
   newcomer_numbered : p.mode ≡ Waiting → (x : Reference) → reference_keeps (Some x) ≡ true → x.component.number.0 < 1000000000 →
       EntryStands r head q first (numbered_entry r p w h x (Some (record { 0 = x.component.number.0 + 1 })))
@@ -123,14 +122,13 @@ module _ (r : ℕ) (head : Option Head) (q p : Page) (w : Row) (first : Option M
         stands = record {
           page = recording_tests r Joining p h n fits hf.holds hf.stamped (omega arith) (omega arith) same (st Nothing).page;
           row = row_from r (recording Joining p h n) (newcomer_row r w h x) (row_parts r p w (st Nothing).row).0
-              (entering_back r (recording Joining p h n) h (record { reference = x; members = record { 0 = 0 }; newcomers = record { 0 = single r } })
+              (entering_back r (recording Joining p h n) h (record { reference = x; recorders = recorders_with no_recorders r Newcomer })
               (record {
                 joining = refl;
                 head = record { holds = hf.holds; stamped = hf.stamped };
                 under = and_from _ _ (eq-eqb h.stamp.0 h.stamp.0 refl) (eq-eqb h.set.0 h.set.0 refl);
                 reference = keep;
-                members = within_none h.set.0;
-                newcomers = within_alone h.set.0 r hf.holds;
+                recorders = recorders_added no_recorders h.set.0 r Newcomer (recorders_none h.set.0) hf.holds;
               }));
           same = under;
           advances = record { top = (st Nothing).advances.top; mark = advances_raised q p n (st Nothing).advances };

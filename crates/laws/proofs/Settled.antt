@@ -1,5 +1,5 @@
 -- The view that a round settles on: somebody reported it, so it is numbered as a view may be. Assumes nothing.
-use Rattle.std.proofs.Common.{◌≡◌, ℕ, ◌<◌, ◌≤◌, Bool, false, cond, ◌&&◌, List, Some, None, Option, sym, refl, ◌∙◌, subst, ⊎_elim}
+use Rattle.std.proofs.Common.{◌≡◌, ℕ, ◌<◌, ◌≤◌, Bool, false, if◌then◌else◌, ◌&&◌, List, Some, None, Option, sym, refl, ◌∙◌, subst, ⊎_elim}
 use Rattle.std.proofs.lemmas.Bool.{and_parts, not-false, cond_both, cases_Bool, cond-true, cond-false}
 use Rattle.quorum.proofs.Below.{first_cases}
 use Rattle.quorum.specs.Members.{has}
@@ -67,7 +67,7 @@ module _ (f : ℕ → ℕ → Bool) (h : Head) (rs : List (Option Report)) (keep
 
   clear_numbered : (v : View) → v.number.0 ≤ 1000000000 → Numbered (clear_or_all f h rs v).1
   clear_numbered v l =
-      cond_both {A = End} (f (clear_members rs v) v.set.0) (SettledByClear, Some v) (cond (all_level h rs v) (SettledByAll, Some v) (Undecided, None)) (λ x. Numbered x.1) (λ _. l)
+      cond_both {A = End} (f (clear_members rs v) v.set.0) (SettledByClear, Some v) (if all_level h rs v then (SettledByAll, Some v) else (Undecided, None)) (λ x. Numbered x.1) (λ _. l)
       (λ _. cond_both {A = End} (all_level h rs v) (SettledByAll, Some v) (Undecided, None) (λ x. Numbered x.1) (λ _. l) (λ _. tt))
 
   held_numbered : (o : Option Recorded) (rest : End) → ((s : Recorded) → o ≡ Some s → s.view.number.0 ≤ 1000000000) → Numbered rest.1 → Numbered (unless_held f h o rest).1

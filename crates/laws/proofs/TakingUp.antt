@@ -1,5 +1,5 @@
 -- Taking up a view. Assumes nothing.
-use Rattle.std.proofs.Common.{◌≡◌, ℕ, ◌<◌, ◌≤◌, Bool, true, false, cond, ◌&&◌, ltb, replicate, Some, None, Option, sym, refl, ap, ◌∙◌, subst, inl, le_refl, arith}
+use Rattle.std.proofs.Common.{◌≡◌, ℕ, ◌<◌, ◌≤◌, Bool, true, false, if◌then◌else◌, ◌&&◌, ltb, replicate, is_some, Some, None, Option, sym, refl, ap, ◌∙◌, subst, inl, le_refl, arith}
 use lib.ListN.{get_or-replicate}
 use Rattle.std.proofs.lemmas.Bool.{and_from, cond_both, lt-ltb}
 use Rattle.std.proofs.lemmas.Bool.Decides.{nat_tests}
@@ -9,6 +9,7 @@ use Rattle.quorum.specs.Sets.{less, single}
 use Rattle.quorum.specs.declared.set.ReplicaSet.{ReplicaSet}
 use Rattle.rounds.specs.Reports.{reported}
 use Rattle.rows.specs.Messages.{reporting_mode, report_keeps, message_keeps}
+use Rattle.rows.specs.Recorders.{no_recorders}
 use Rattle.rows.specs.Rows.{is_normal, survivors_keep, has_next, not_later, report_breaks, stage_keeps, row_keeps}
 use Rattle.rows.specs.declared.message.Message.{Message}
 use Rattle.rows.specs.declared.message.Posts.{Posts}
@@ -24,7 +25,7 @@ use Rattle.stores.specs.declared.view.Head.{Head}
 use Rattle.stores.specs.declared.view.Number.{Number}
 use Rattle.stores.specs.declared.view.Recorded.{Recorded}
 use Rattle.stores.specs.declared.view.View.{View}
-use Rattle.manager.specs.Calls.{head_of, is_open, at_highest, report_of, report_message, own_reports, round_row, beginning, topped, thinned, gathering_row, state_message, abort_message, join_message, applying_row, member_takes_up, normal_takes_up, mode_takes_up, taking_up}
+use Rattle.manager.specs.Calls.{head_of, at_highest, report_of, report_message, own_reports, round_row, beginning, topped, thinned, gathering_row, state_message, abort_message, join_message, applying_row, member_takes_up, normal_takes_up, mode_takes_up, taking_up}
 use Rattle.manager.specs.Effects.{in_mode, effect, posts_of, entry_of, judged, judged_again}
 use Rattle.manager.specs.Verdicts.{verdict_of}
 use Rattle.manager.specs.declared.need.Need.{Need}
@@ -33,8 +34,8 @@ use Rattle.laws.proofs.Hearing.{one_more, report_kept, report_told}
 use Rattle.laws.proofs.Judged.{Stands, verdict_fits, carried}
 use Rattle.laws.proofs.Pages.{Tests, of_tests, topped_tests, reconfigured_tests, has_view}
 use Rattle.laws.proofs.Recording.{Told, posts_keep, entry_stands, again, judges}
-use Rattle.laws.proofs.Rows.{row_parts, row_from, gathering_back, applying_back, round_back}
-use Rattle.laws.proofs.Subsets.{within_itself, within_none, within_alone, within_less, within_first, within_second}
+use Rattle.rows.proofs.Facts.{row_parts, row_from, gathering_back, applying_back, round_back}
+use Rattle.laws.proofs.Subsets.{within_itself, within_none, within_alone, within_less, within_first, within_second, recorders_none}
 
 -- a page is not behind itself
 same_mark : (m : Option Number) → NotLower m m
@@ -50,7 +51,7 @@ pub record Announced (r : ℕ) (p : Page) (w : Row) (h : Head) : Type 0 where
   pub row : row_keeps r p w ≡ true
   pub below : r < 16
   pub holds : has h.set.0 r ≡ true
-  pub idle : is_open (head_of w.stage) ≡ false
+  pub idle : is_some (head_of w.stage) ≡ false
   pub later : p.top.0 < h.stamp.0
   pub room : (is_normal p.mode && at_highest p.component) ≡ false
 
@@ -89,13 +90,13 @@ module _ (f : ℕ → ℕ → Bool) (need : Need) (r : ℕ) (p : Page) (w : Row)
     recorded = λ s e. inl e;
   }
 
-  idle_topped : (s : Stage) → is_open (head_of s) ≡ false → stage_keeps r p w.up w.lost s ≡ true → stage_keeps r (topped p h) w.up w.lost s ≡ true
+  idle_topped : (s : Stage) → is_some (head_of s) ≡ false → stage_keeps r p w.up w.lost s ≡ true → stage_keeps r (topped p h) w.up w.lost s ≡ true
   idle_topped Idle e k = k
-  idle_topped (Gathering g x) e k = absurd (let z : ◌≡◌ {A = ℕ} 0 1 = cc in omega arith)
-  idle_topped (Confirming g x) e k = absurd (let z : ◌≡◌ {A = ℕ} 0 1 = cc in omega arith)
-  idle_topped (Applying g x) e k = absurd (let z : ◌≡◌ {A = ℕ} 0 1 = cc in omega arith)
-  idle_topped (Entering g x) e k = absurd (let z : ◌≡◌ {A = ℕ} 0 1 = cc in omega arith)
-  idle_topped (Round g x) e k = absurd (let z : ◌≡◌ {A = ℕ} 0 1 = cc in omega arith)
+  idle_topped (Gathering g x) e k = absurd cc
+  idle_topped (Confirming g x) e k = absurd cc
+  idle_topped (Applying g x) e k = absurd cc
+  idle_topped (Entering g x) e k = absurd cc
+  idle_topped (Round g x) e k = absurd cc
 
   only_topped : Lawful r (Some h) p (effect (topped p h) w Nothing)
   only_topped = record {
@@ -158,15 +159,14 @@ module _ (f : ℕ → ℕ → Bool) (need : Need) (r : ℕ) (p : Page) (w : Row)
     gathers : (posts : Posts) → Stands r (Some h) p posts (topped p h) (gathering_row r (thinned w h) h)
     gathers =
         topped_stands (gathering_row r (thinned w h) h) refl (row_from r (topped p h) (gathering_row r (thinned w h) h) thin_keeps
-        (gathering_back r (topped p h) h (record { states = record { 0 = single r }; members = record { 0 = 0 }; newcomers = record { 0 = 0 }; answered = false })
+        (gathering_back r (topped p h) h (record { states = record { 0 = single r }; recorders = no_recorders; answered = false })
         (record {
           normal = rw m;
           head = record { holds = a.holds; stamped = le_refl h.stamp.0 };
           next = next;
           later = before;
           states = within_alone h.set.0 r a.holds;
-          members = within_none h.set.0;
-          newcomers = within_none h.set.0;
+          recorders = recorders_none h.set.0;
         })))
 
     members : Lawful r (Some h) p (member_takes_up f need r (topped p h) (thinned w h) h c)
@@ -175,8 +175,7 @@ module _ (f : ℕ → ℕ → Bool) (need : Need) (r : ℕ) (p : Page) (w : Row)
         let y = thinned w h in
         let st = gathers Nothing in
         cond_both (f y.survivors.0 c.set.0)
-        (cond (within h.set.0 y.survivors.0) (judged_again f need r None (entry_of r x (gathering_row r y h)))
-        (judged f need r x (gathering_row r y h) (Some (state_message r h c y.survivors))))
+        (if within h.set.0 y.survivors.0 then judged_again f need r None (entry_of r x (gathering_row r y h)) else judged f need r x (gathering_row r y h) (Some (state_message r h c y.survivors)))
         (beginning f need r (in_mode Reconfiguration x) y h (Some (abort_message r h))) (Lawful r (Some h) p)
         (λ _. cond_both (within h.set.0 y.survivors.0) (judged_again f need r None (entry_of r x (gathering_row r y h)))
         (judged f need r x (gathering_row r y h) (Some (state_message r h c y.survivors))) (Lawful r (Some h) p)
@@ -184,7 +183,7 @@ module _ (f : ℕ → ℕ → Bool) (need : Need) (r : ℕ) (p : Page) (w : Row)
         (λ _. judges f need r (Some h) p x (gathering_row r y h) gathers (Some (state_message r h c y.survivors))
         (state_told r h c y.survivors a.holds (lt-ltb c.number.0 1000000000 low) thin (within_second w.survivors.0 h.set.0))))
         (λ _. begins (in_mode Reconfiguration x) y (Some (abort_message r h)) refl
-        (reconfigured_tests r x (has_view r x st.page (λ n. let z : ◌≡◌ {A = ℕ} 0 1 = cc in omega arith)) st.page) (le_refl h.stamp.0) thin_keeps
+        (reconfigured_tests r x (has_view r x st.page (λ n. cc)) st.page) (le_refl h.stamp.0) thin_keeps
         (record { top = st.advances.top; mark = st.advances.mark }) refl refl (plain_told r h a.holds).1)
 
   normals : p.mode ≡ Normal → (o : Option View) → p.component ≡ o → Lawful r (Some h) p (normal_takes_up f need r (topped p h) w h o)

@@ -1,9 +1,9 @@
 -- The calls of a host: what each does, or why it is refused. Assumes nothing.
-use Rattle.std.specs.Prelude.{ℕ, Bool, true, false, cond, not, ◌&&◌, ◌||◌, List, replicate, Some, None, Ok, Err, Option, Result, ◌==◌, nat_le, slice_set}
+use Rattle.std.specs.Prelude.{ℕ, Bool, true, false, if◌then◌else◌, not, ◌&&◌, ◌||◌, List, is_some, replicate, Some, None, Ok, Err, Option, Result, ◌==◌, nat_le, slice_set}
 use Rattle.std.specs.Option.{option_or}
 use Rattle.quorum.specs.Below.{within}
 use Rattle.quorum.specs.Members.{has}
-use Rattle.quorum.specs.Sets.{either, both, less, single}
+use Rattle.quorum.specs.Sets.{both, less, single}
 use Rattle.quorum.specs.declared.fault.Fault.{Fault}
 use Rattle.quorum.specs.declared.fault.Layer.TheVariants.{Manager}
 use Rattle.quorum.specs.declared.fault.Reason.{Reason}
@@ -12,6 +12,7 @@ use Rattle.quorum.specs.declared.set.ReplicaSet.{ReplicaSet}
 use Rattle.rounds.specs.declared.outcome.Outcome.TheVariants.{Spare}
 use Rattle.rounds.specs.declared.report.Report.{Report}
 use Rattle.rows.specs.Messages.{message_keeps}
+use Rattle.rows.specs.Recorders.{adding, no_recorders}
 use Rattle.rows.specs.Rows.{row_keeps, is_normal}
 use Rattle.rows.specs.declared.message.Body.TheVariants.{State, Abort, Join, Report as Reports}
 use Rattle.rows.specs.declared.message.Message.{Message}
@@ -44,6 +45,11 @@ refusal reason r = refused_at Manager reason r
 abbrev pub first_of : Option Fault → Option Fault → Option Fault
 first_of a b = option_or a b
 
+-- what is found or done, unless it is refused
+abbrev pub unless_refused : {A : Type 0} → Option Fault → A → Result A Fault
+unless_refused None a = Ok a
+unless_refused (Some fault) a = Err fault
+
 -- page and row keep the rules
 abbrev pub all_keep : ℕ → Page → Row → Bool
 all_keep r p w = keeps_rules r p && row_keeps r p w
@@ -64,10 +70,6 @@ head_of (Applying h a) = Some h
 head_of (Entering h e) = Some h
 head_of (Round h rs) = Some h
 
-abbrev pub is_open : Option Head → Bool
-is_open None = false
-is_open (Some h) = true
-
 -- normal mode at the highest number
 abbrev pub at_highest : Option View → Bool
 at_highest None = false
@@ -77,7 +79,7 @@ at_highest (Some c) = nat_le 1000000000 c.number.0
 abbrev pub announcement_refusal : ℕ → Page → Row → Head → Option Fault
 announcement_refusal r p w h =
     first_of (refused_if (not (has h.set.0 r)) (refusal ViewWithoutReplica r))
-    (first_of (refused_if (is_open (head_of w.stage)) (refusal HeadOpen r))
+    (first_of (refused_if (is_some (head_of w.stage)) (refusal HeadOpen r))
     (first_of (refused_if (nat_le h.stamp.0 p.top.0) (refusal StampNotAbove r))
     (refused_if (is_normal p.mode && at_highest p.component) (refusal NumbersExhausted r))))
 
@@ -135,15 +137,15 @@ beginning f need r p w h first =
 
 -- the top stamp becomes the head's
 abbrev pub topped : Page → Head → Page
-topped p h = record { mode = p.mode; top = h.stamp; mark = p.mark; component = p.component; recorded = p.recorded }
+topped p h = record p { top = h.stamp }
 
 -- survivors keep only the view's members
 abbrev pub thinned : Row → Head → Row
-thinned w h = record { up = w.up; lost = w.lost; survivors = record { 0 = both w.survivors.0 h.set.0 }; stage = w.stage }
+thinned w h = record w { survivors = record { 0 = both w.survivors.0 h.set.0 } }
 
 -- the replica's own State counts as heard
 abbrev pub gathering_row : ℕ → Row → Head → Row
-gathering_row r w h = in_stage (Gathering h (record { states = record { 0 = single r }; members = nobody_set; newcomers = nobody_set; answered = false })) w
+gathering_row r w h = in_stage (Gathering h (record { states = record { 0 = single r }; recorders = no_recorders; answered = false })) w
 
 abbrev pub state_message : ℕ → Head → View → ReplicaSet → Message
 state_message r h c s = record { sender = r; head = h; body = State c s }
@@ -161,10 +163,10 @@ applying_row r w h = in_stage (Applying h (record { sources = record { 0 = less 
 -- a member with the component view c: survivors that no longer carry it begin a round; without newcomers the view is recorded; else States are gathered
 abbrev pub member_takes_up : (ℕ → ℕ → Bool) → Need → ℕ → Page → Row → Head → View → Effect
 member_takes_up f need r p w h c =
-    cond (f w.survivors.0 c.set.0)
-    (cond (within h.set.0 w.survivors.0) (judged_again f need r None (entry_of r p (gathering_row r w h)))
-    (judged f need r p (gathering_row r w h) (Some (state_message r h c w.survivors))))
-    (beginning f need r (in_mode Reconfiguration p) w h (Some (abort_message r h)))
+    if f w.survivors.0 c.set.0 then
+    (if within h.set.0 w.survivors.0 then judged_again f need r None (entry_of r p (gathering_row r w h))
+    else judged f need r p (gathering_row r w h) (Some (state_message r h c w.survivors)))
+    else beginning f need r (in_mode Reconfiguration p) w h (Some (abort_message r h))
 
 abbrev pub normal_takes_up : (ℕ → ℕ → Bool) → Need → ℕ → Page → Row → Head → Option View → Effect
 normal_takes_up f need r p w h None = effect p w Nothing
@@ -188,7 +190,7 @@ following f need r p w h Aborted = effect p (closed w) Nothing
 
 -- one more lost
 abbrev pub losing : Row → ℕ → Row
-losing w q = record { up = w.up; lost = record { 0 = either w.lost.0 (single q) }; survivors = w.survivors; stage = w.stage }
+losing w q = record w { lost = adding w.lost q }
 
 -- down, or up, and empty
 abbrev pub empty_row : Bool → Row
@@ -202,17 +204,13 @@ started Normal = Reconfiguration
 started Reconfiguration = Reconfiguration
 
 -- ---- the calls
-abbrev pub unless_refused : Option Fault → Effect → Result Effect Fault
-unless_refused None e = Ok e
-unless_refused (Some fault) e = Err fault
-
 -- a view is taken up
 unfoldable pub viewed : (ℕ → ℕ → Bool) → Need → ℕ → Page → Row → Head → Result Effect Fault
 viewed f need r p w h = unless_refused (view_refusal r p w h) (taking_up f need r p w h)
 
-abbrev pub heard_or_not : (ℕ → ℕ → Bool) → Need → ℕ → Page → Row → Head → Result Turn Reason → Result Effect Fault
+abbrev pub heard_or_not : (ℕ → ℕ → Bool) → Need → ℕ → Page → Row → Head → Result (Turn Stage) Reason → Result Effect Fault
 heard_or_not f need r p w h (Err reason) = Err (refusal reason r)
-heard_or_not f need r p w h (Ok t) = Ok (following f need r p (in_stage t.stage w) h t.hearing)
+heard_or_not f need r p w h (Ok t) = Ok (following f need r p (in_stage t.left w) h t.hearing)
 
 abbrev pub delivered_to : (ℕ → ℕ → Bool) → Need → ℕ → Page → Row → Message → Option Fault → Result Effect Fault
 delivered_to f need r p w m (Some fault) = Err fault

@@ -1,7 +1,6 @@
 -- What a call leaves: recording, installing, settling, closing, and what judging comes to. Assumes nothing.
-use Rattle.std.specs.Prelude.{ℕ, ◌+◌, max, Bool, cond, Some, None, Option, nat_lt}
+use Rattle.std.specs.Prelude.{ℕ, ◌+◌, max, Bool, if◌then◌else◌, Some, None, Option, nat_lt}
 use Rattle.quorum.specs.Members.{has}
-use Rattle.quorum.specs.Sets.{either, single}
 use Rattle.quorum.specs.declared.set.ReplicaSet.{ReplicaSet}
 use Rattle.rounds.specs.declared.outcome.Outcome.{Outcome}
 use Rattle.stores.specs.declared.page.Mode.{Mode}
@@ -13,6 +12,7 @@ use Rattle.stores.specs.declared.view.Recorded.{Recorded as RecordedView}
 use Rattle.stores.specs.declared.view.View.{View}
 use Rattle.stores.specs.Views.{recorded as recorded_view}
 use Rattle.manager.specs.declared.answer.Answer.{Answer}
+use Rattle.rows.specs.Recorders.{no_recorders, recorders_with}
 use Rattle.rows.specs.declared.message.Body.TheVariants.{Recorded}
 use Rattle.rows.specs.declared.message.Message.{Message}
 use Rattle.rows.specs.declared.message.Part.{Part}
@@ -47,14 +47,14 @@ abbrev pub nobody_set : ReplicaSet
 nobody_set = record { 0 = 0 }
 
 abbrev pub in_mode : Mode → Page → Page
-in_mode m p = record { mode = m; top = p.top; mark = p.mark; component = p.component; recorded = p.recorded }
+in_mode m p = record p { mode = m }
 
 abbrev pub in_stage : Stage → Row → Row
-in_stage s w = record { up = w.up; lost = w.lost; survivors = w.survivors; stage = s }
+in_stage s w = record w { stage = s }
 
 -- the head closes: idle, with nothing lost or heard
 abbrev pub closed : Row → Row
-closed w = record { up = w.up; lost = nobody_set; survivors = w.survivors; stage = Idle }
+closed w = record w { lost = nobody_set; stage = Idle }
 
 -- a mark raised to a number
 abbrev pub raised : Option Number → ℕ → Number
@@ -63,21 +63,21 @@ raised (Some m) n = record { 0 = max m.0 n }
 
 -- the page with the head recorded under the number n
 abbrev pub recording : Mode → Page → Head → ℕ → Page
-recording m p h n = record { mode = m; top = p.top; mark = Some (raised p.mark n); component = p.component; recorded = Some (recorded_view n h.set.0 h.stamp.0) }
+recording m p h n = record p { mode = m; mark = Some (raised p.mark n); recorded = Some (recorded_view n h.set.0 h.stamp.0) }
 
 -- the page and row with a view as the component view, nothing recorded, and the view's set as the survivors
 abbrev pub component_page : Page → Option Number → View → Page
-component_page p m v = record { mode = Normal; top = p.top; mark = m; component = Some v; recorded = None }
+component_page p m v = record p { mode = Normal; mark = m; component = Some v; recorded = None }
 
 abbrev pub component_row : Row → View → Row
-component_row w v = record { up = w.up; lost = nobody_set; survivors = v.set; stage = Idle }
+component_row w v = record w { lost = nobody_set; survivors = v.set; stage = Idle }
 
 -- a spare: waiting, with neither view, the mark kept
 abbrev pub spare_page : Page → Page
-spare_page p = record { mode = Waiting; top = p.top; mark = p.mark; component = None; recorded = None }
+spare_page p = record p { mode = Waiting; component = None; recorded = None }
 
 abbrev pub spare_row : Row → Row
-spare_row w = record { up = w.up; lost = nobody_set; survivors = nobody_set; stage = Idle }
+spare_row w = record w { lost = nobody_set; survivors = nobody_set; stage = Idle }
 
 -- ---- the end of a head
 -- the recorded view becomes the component view
@@ -89,8 +89,8 @@ installing p w posts (Some s) = effect (component_page p p.mark s.view) (compone
 abbrev pub settling : ℕ → Page → Row → Posts → Outcome → Option View → Effect
 settling r p w posts o None = ending p (closed w) posts o None
 settling r p w posts o (Some v) =
-    cond (has v.set.0 r) (ending (component_page p (Some (raised p.mark v.number.0)) v) (component_row w v) posts o (Some v))
-    (ending (spare_page p) (spare_row w) posts o (Some v))
+    if has v.set.0 r then ending (component_page p (Some (raised p.mark v.number.0)) v) (component_row w v) posts o (Some v)
+    else ending (spare_page p) (spare_row w) posts o (Some v)
 
 -- what a verdict comes to; recording is not among them
 abbrev pub carried_out : ℕ → Page → Row → Posts → Verdict → Effect
@@ -99,17 +99,17 @@ carried_out r p w posts Records = effect p w posts
 carried_out r p w posts Installs = installing p w posts p.recorded
 carried_out r p w posts Reconfigures = effect (in_mode Reconfiguration p) (closed w) posts
 carried_out r p w posts Closes = effect p (closed w) posts
-carried_out r p w posts Forgets = effect (record { mode = Waiting; top = p.top; mark = p.mark; component = p.component; recorded = None }) (closed w) posts
+carried_out r p w posts Forgets = effect (record p { mode = Waiting; recorded = None }) (closed w) posts
 carried_out r p w posts (Ends o v) = settling r p w posts o v
 
 -- ---- recording
 -- a member records the head with its component view's number plus one; its own Recorded counts as heard
 abbrev pub member_row : ℕ → Row → Head → Gathered → Row
-member_row r w h g = in_stage (Confirming h (record { members = record { 0 = either g.members.0 (single r) }; newcomers = g.newcomers; answered = g.answered })) w
+member_row r w h g = in_stage (Confirming h (record { recorders = recorders_with g.recorders r Member; answered = g.answered })) w
 
 -- a newcomer records it with the reference's number plus one
 abbrev pub newcomer_row : ℕ → Row → Head → Reference → Row
-newcomer_row r w h x = in_stage (Entering h (record { reference = x; members = nobody_set; newcomers = record { 0 = single r } })) w
+newcomer_row r w h x = in_stage (Entering h (record { reference = x; recorders = recorders_with no_recorders r Newcomer })) w
 
 -- Recorded of replica r under its head
 abbrev pub recorded_message : ℕ → Head → ℕ → Part → Message
@@ -117,7 +117,7 @@ recorded_message r h n part = record { sender = r; head = h; body = Recorded (re
 
 -- the number after one; the highest, 1,000,000,000, has none
 abbrev pub next_of : Number → Option Number
-next_of n = cond (nat_lt n.0 1000000000) (Some (record { 0 = n.0 + 1 })) None
+next_of n = if nat_lt n.0 1000000000 then Some (record { 0 = n.0 + 1 }) else None
 
 abbrev pub next_component : Option View → Option Number
 next_component None = None

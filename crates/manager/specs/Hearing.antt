@@ -1,7 +1,7 @@
 -- What each stage hears. Assumes nothing.
-use Rattle.std.specs.Prelude.{ℕ, ◌+◌, ◌-◌, Bool, true, false, cond, not, ◌&&◌, List, is_some, Some, None, Ok, Err, Option, Result, ◌==◌, nat_le, nat_lt, slice_set}
+use Rattle.std.specs.Prelude.{ℕ, ◌+◌, ◌-◌, Bool, true, false, if◌then◌else◌, not, ◌&&◌, List, is_some, Some, None, Ok, Err, Option, Result, ◌==◌, nat_le, nat_lt, slice_set}
 use Rattle.quorum.specs.Members.{has}
-use Rattle.quorum.specs.Sets.{either, less, single}
+use Rattle.quorum.specs.Sets.{less, single}
 use Rattle.quorum.specs.declared.fault.Reason.{Reason}
 use Rattle.quorum.specs.declared.fault.Reason.TheVariants.{NotHeard, HeardAlready}
 use Rattle.quorum.specs.declared.set.ReplicaSet.{ReplicaSet}
@@ -9,19 +9,19 @@ use Rattle.rounds.specs.Reports.{reported}
 use Rattle.rounds.specs.declared.report.Report.{Report}
 use Rattle.stores.specs.Views.{same_view}
 use Rattle.stores.specs.declared.page.Page.{Page}
-use Rattle.stores.specs.declared.view.Head.{Head}
 use Rattle.stores.specs.declared.view.Number.{Number}
 use Rattle.stores.specs.declared.view.Recorded.{Recorded as RecordedView}
 use Rattle.stores.specs.declared.view.View.{View}
+use Rattle.rows.specs.Recorders.{adding, all_recorders, recorders_with}
 use Rattle.rows.specs.Rows.{is_normal, is_reconfiguration}
 use Rattle.rows.specs.declared.message.Body.{Body}
 use Rattle.rows.specs.declared.message.Body.TheVariants.{State, Abort, Join, Recorded, Report as Reports}
 use Rattle.rows.specs.declared.message.Part.{Part}
-use Rattle.rows.specs.declared.message.Part.TheVariants.{Member, Newcomer}
 use Rattle.rows.specs.declared.row.Applied.{Applied}
 use Rattle.rows.specs.declared.row.Confirmed.{Confirmed}
 use Rattle.rows.specs.declared.row.Entered.{Entered}
 use Rattle.rows.specs.declared.row.Gathered.{Gathered}
+use Rattle.rows.specs.declared.row.Recorders.{Recorders}
 use Rattle.rows.specs.declared.row.Reference.{Reference}
 use Rattle.rows.specs.declared.row.Row.{Row}
 use Rattle.rows.specs.declared.row.Stage.{Stage}
@@ -29,22 +29,27 @@ use Rattle.rows.specs.declared.row.Stage.TheVariants.{Idle, Gathering, Confirmin
 use Rattle.manager.specs.declared.hearing.Hearing.{Hearing}
 use Rattle.manager.specs.declared.hearing.Hearing.TheVariants.{Heard, Answered, Outdone, Aborted}
 
--- the stage after a message, and what follows from it
-pub record Turn : Type 0 where
-  pub stage : Stage
+-- what a message leaves of the stage, or of what the stage holds, and what follows from it
+pub record Turn (A : Type 0) : Type 0 where
+  pub left : A
   pub hearing : Hearing
 
 -- heard where a rule hears it and it was not heard before
-abbrev pub heard_if : Bool → Bool → Stage → Hearing → Result Turn Reason
-heard_if hears already s k = cond hears (cond already (Err HeardAlready) (Ok (record { stage = s; hearing = k }))) (Err NotHeard)
+abbrev pub heard_if : {A : Type 0} → Bool → Bool → A → Hearing → Result (Turn A) Reason
+heard_if hears already a k = if hears then (if already then Err HeardAlready else Ok (record { left = a; hearing = k })) else Err NotHeard
+
+-- the turn of what a stage holds is one of the stage
+abbrev pub turned : {A : Type 0} → (A → Stage) → Result (Turn A) Reason → Result (Turn Stage) Reason
+turned stage (Ok t) = Ok (record { left = stage t.left; hearing = t.hearing })
+turned stage (Err e) = Err e
 
 -- the same, where nothing is said of the stage
 abbrev pub may_hear : Bool → Bool → Result Unit Reason
-may_hear hears already = cond hears (cond already (Err HeardAlready) (Ok tt)) (Err NotHeard)
+may_hear hears already = if hears then (if already then Err HeardAlready else Ok tt) else Err NotHeard
 
--- a set with one more
-abbrev pub adding : ReplicaSet → ℕ → ReplicaSet
-adding s q = record { 0 = either s.0 (single q) }
+-- Recorded is heard once from a sender, in whichever part
+abbrev pub hears_recorded : Bool → Recorders → ℕ → Part → Result (Turn Recorders) Reason
+hears_recorded hears x q part = heard_if hears (has (all_recorders x) q) (recorders_with x q part) Heard
 
 -- a number one above the component view's
 abbrev pub one_above : Option View → Number → Bool
@@ -78,67 +83,59 @@ fixed (Some x) c s = x
 
 -- ---- gathering: a State from a survivor with the same component view; Recorded one above it; a Report of mode reconfiguration, answered once
 abbrev pub gathered_state : Gathered → ℕ → Gathered
-gathered_state g q = record { states = adding g.states q; members = g.members; newcomers = g.newcomers; answered = g.answered }
+gathered_state g q = record g { states = adding g.states q }
 
 abbrev pub gathered_recorded : Gathered → ℕ → Part → Gathered
-gathered_recorded g q Member = record { states = g.states; members = adding g.members q; newcomers = g.newcomers; answered = g.answered }
-gathered_recorded g q Newcomer = record { states = g.states; members = g.members; newcomers = adding g.newcomers q; answered = g.answered }
+gathered_recorded g q part = record g { recorders = recorders_with g.recorders q part }
 
 abbrev pub gathered_answer : Gathered → Gathered
-gathered_answer g = record { states = g.states; members = g.members; newcomers = g.newcomers; answered = true }
+gathered_answer g = record g { answered = true }
 
-abbrev pub hears_gathering : Page → ReplicaSet → Head → Gathered → ℕ → Body → Result Turn Reason
-hears_gathering p survivors h g q (State c s) =
-    heard_if (has survivors.0 q && as_component p.component c) (has g.states.0 q) (Gathering h (gathered_state g q)) Heard
-hears_gathering p survivors h g q Abort = Err NotHeard
-hears_gathering p survivors h g q Join = Err NotHeard
-hears_gathering p survivors h g q (Recorded n part) =
-    heard_if (one_above p.component n) (has (either g.members.0 g.newcomers.0) q) (Gathering h (gathered_recorded g q part)) Heard
-hears_gathering p survivors h g q (Reports m) = heard_if (is_reconfiguration m.mode) g.answered (Gathering h (gathered_answer g)) Answered
+abbrev pub hears_gathering : Page → ReplicaSet → Gathered → ℕ → Body → Result (Turn Gathered) Reason
+hears_gathering p survivors g q (State c s) = heard_if (has survivors.0 q && as_component p.component c) (has g.states.0 q) (gathered_state g q) Heard
+hears_gathering p survivors g q Abort = Err NotHeard
+hears_gathering p survivors g q Join = Err NotHeard
+hears_gathering p survivors g q (Recorded n part) = heard_if (one_above p.component n) (has (all_recorders g.recorders) q) (gathered_recorded g q part) Heard
+hears_gathering p survivors g q (Reports m) = heard_if (is_reconfiguration m.mode) g.answered (gathered_answer g) Answered
 
 -- ---- confirming: Recorded numbered as the recorded view; a Report of mode reconfiguration, answered once
 abbrev pub confirmed_recorded : Confirmed → ℕ → Part → Confirmed
-confirmed_recorded g q Member = record { members = adding g.members q; newcomers = g.newcomers; answered = g.answered }
-confirmed_recorded g q Newcomer = record { members = g.members; newcomers = adding g.newcomers q; answered = g.answered }
+confirmed_recorded g q part = record g { recorders = recorders_with g.recorders q part }
 
 abbrev pub confirmed_answer : Confirmed → Confirmed
-confirmed_answer g = record { members = g.members; newcomers = g.newcomers; answered = true }
+confirmed_answer g = record g { answered = true }
 
-abbrev pub hears_confirming : Page → Head → Confirmed → ℕ → Body → Result Turn Reason
-hears_confirming p h g q (State c s) = Err NotHeard
-hears_confirming p h g q Abort = Err NotHeard
-hears_confirming p h g q Join = Err NotHeard
-hears_confirming p h g q (Recorded n part) =
-    heard_if (as_recorded p.recorded n) (has (either g.members.0 g.newcomers.0) q) (Confirming h (confirmed_recorded g q part)) Heard
-hears_confirming p h g q (Reports m) = heard_if (is_reconfiguration m.mode) g.answered (Confirming h (confirmed_answer g)) Answered
+abbrev pub hears_confirming : Page → Confirmed → ℕ → Body → Result (Turn Confirmed) Reason
+hears_confirming p g q (State c s) = Err NotHeard
+hears_confirming p g q Abort = Err NotHeard
+hears_confirming p g q Join = Err NotHeard
+hears_confirming p g q (Recorded n part) = heard_if (as_recorded p.recorded n) (has (all_recorders g.recorders) q) (confirmed_recorded g q part) Heard
+hears_confirming p g q (Reports m) = heard_if (is_reconfiguration m.mode) g.answered (confirmed_answer g) Answered
 
 -- ---- applying: a State that reaches the mark and fits the reference; before a reference Join, which takes its sender from the sources; Abort
 abbrev pub applied_state : Applied → ℕ → View → ReplicaSet → Applied
-applied_state a q c s = record { sources = a.sources; joins = a.joins; states = adding a.states q; reference = Some (fixed a.reference c s) }
+applied_state a q c s = record a { states = adding a.states q; reference = Some (fixed a.reference c s) }
 
 abbrev pub applied_join : Applied → ℕ → Applied
-applied_join a q = record { sources = record { 0 = less a.sources.0 (single q) }; joins = adding a.joins q; states = a.states; reference = a.reference }
+applied_join a q = record a { sources = record { 0 = less a.sources.0 (single q) }; joins = adding a.joins q }
 
-abbrev pub hears_applying : Page → Head → Applied → ℕ → Body → Result Turn Reason
-hears_applying p h a q (State c s) =
-    heard_if (reaches_mark p.mark c.number && as_reference a.reference c) (has a.states.0 q) (Applying h (applied_state a q c s)) Heard
-hears_applying p h a q Abort = Ok (record { stage = Applying h a; hearing = Aborted })
-hears_applying p h a q Join = heard_if (not (is_some a.reference)) (has a.joins.0 q) (Applying h (applied_join a q)) Heard
-hears_applying p h a q (Recorded n part) = Err NotHeard
-hears_applying p h a q (Reports m) = Err NotHeard
+abbrev pub hears_applying : Page → Applied → ℕ → Body → Result (Turn Applied) Reason
+hears_applying p a q (State c s) = heard_if (reaches_mark p.mark c.number && as_reference a.reference c) (has a.states.0 q) (applied_state a q c s) Heard
+hears_applying p a q Abort = Ok (record { left = a; hearing = Aborted })
+hears_applying p a q Join = heard_if (not (is_some a.reference)) (has a.joins.0 q) (applied_join a q) Heard
+hears_applying p a q (Recorded n part) = Err NotHeard
+hears_applying p a q (Reports m) = Err NotHeard
 
 -- ---- entering: Recorded numbered as the recorded view
 abbrev pub entered_recorded : Entered → ℕ → Part → Entered
-entered_recorded e q Member = record { reference = e.reference; members = adding e.members q; newcomers = e.newcomers }
-entered_recorded e q Newcomer = record { reference = e.reference; members = e.members; newcomers = adding e.newcomers q }
+entered_recorded e q part = record e { recorders = recorders_with e.recorders q part }
 
-abbrev pub hears_entering : Page → Head → Entered → ℕ → Body → Result Turn Reason
-hears_entering p h e q (State c s) = Err NotHeard
-hears_entering p h e q Abort = Err NotHeard
-hears_entering p h e q Join = Err NotHeard
-hears_entering p h e q (Recorded n part) =
-    heard_if (as_recorded p.recorded n) (has (either e.members.0 e.newcomers.0) q) (Entering h (entered_recorded e q part)) Heard
-hears_entering p h e q (Reports m) = Err NotHeard
+abbrev pub hears_entering : Page → Entered → ℕ → Body → Result (Turn Entered) Reason
+hears_entering p e q (State c s) = Err NotHeard
+hears_entering p e q Abort = Err NotHeard
+hears_entering p e q Join = Err NotHeard
+hears_entering p e q (Recorded n part) = heard_if (as_recorded p.recorded n) (has (all_recorders e.recorders) q) (entered_recorded e q part) Heard
+hears_entering p e q (Reports m) = Err NotHeard
 
 -- ---- a round: Report
 -- the number that a round starts from: the component view's or, where that is absent, the recorded view's less one
@@ -156,30 +153,30 @@ above (Some n) (Some c) = nat_lt n c.number.0
 abbrev pub outdoes : Page → Report → Bool
 outdoes p m = is_normal m.mode && above (base_of p.component p.recorded) m.component
 
-abbrev pub hears_round : Page → Head → List (Option Report) → ℕ → Body → Result Turn Reason
-hears_round p h rs q (State c s) = Err NotHeard
-hears_round p h rs q Abort = Err NotHeard
-hears_round p h rs q Join = Err NotHeard
-hears_round p h rs q (Recorded n part) = Err NotHeard
-hears_round p h rs q (Reports m) = heard_if true (is_some (reported rs q)) (Round h (slice_set rs q (Some m))) (cond (outdoes p m) Outdone Heard)
+abbrev pub hears_round : Page → List (Option Report) → ℕ → Body → Result (Turn (List (Option Report))) Reason
+hears_round p rs q (State c s) = Err NotHeard
+hears_round p rs q Abort = Err NotHeard
+hears_round p rs q Join = Err NotHeard
+hears_round p rs q (Recorded n part) = Err NotHeard
+hears_round p rs q (Reports m) = heard_if true (is_some (reported rs q)) (slice_set rs q (Some m)) (if outdoes p m then Outdone else Heard)
 
-abbrev pub hears_stage : Page → ReplicaSet → ℕ → Body → Stage → Result Turn Reason
+abbrev pub hears_stage : Page → ReplicaSet → ℕ → Body → Stage → Result (Turn Stage) Reason
 hears_stage p survivors q b Idle = Err NotHeard
-hears_stage p survivors q b (Gathering h g) = hears_gathering p survivors h g q b
-hears_stage p survivors q b (Confirming h g) = hears_confirming p h g q b
-hears_stage p survivors q b (Applying h a) = hears_applying p h a q b
-hears_stage p survivors q b (Entering h e) = hears_entering p h e q b
-hears_stage p survivors q b (Round h rs) = hears_round p h rs q b
+hears_stage p survivors q b (Gathering h g) = turned (Gathering h) (hears_gathering p survivors g q b)
+hears_stage p survivors q b (Confirming h g) = turned (Confirming h) (hears_confirming p g q b)
+hears_stage p survivors q b (Applying h a) = turned (Applying h) (hears_applying p a q b)
+hears_stage p survivors q b (Entering h e) = turned (Entering h) (hears_entering p e q b)
+hears_stage p survivors q b (Round h rs) = turned (Round h) (hears_round p rs q b)
 
 -- what replica q tells, heard or not
-unfoldable pub hears : Page → Row → ℕ → Body → Result Turn Reason
+unfoldable pub hears : Page → Row → ℕ → Body → Result (Turn Stage) Reason
 hears p w q b = hears_stage p w.survivors q b w.stage
 
--- what of it is answered, and the stage that is left
-abbrev pub hearing_of : Result Turn Reason → Result Hearing Reason
+-- what of it is answered, and what is left of what was there
+abbrev pub hearing_of : {A : Type 0} → Result (Turn A) Reason → Result Hearing Reason
 hearing_of (Ok t) = Ok t.hearing
 hearing_of (Err e) = Err e
 
-abbrev pub stage_left : Stage → Result Turn Reason → Stage
-stage_left s (Ok t) = t.stage
-stage_left s (Err e) = s
+abbrev pub left_of : {A : Type 0} → A → Result (Turn A) Reason → A
+left_of a (Ok t) = t.left
+left_of a (Err e) = a

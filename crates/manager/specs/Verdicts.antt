@@ -1,5 +1,5 @@
 -- Judging a head, stage by stage. `f p s` says whether the part p carries the set s. Assumes nothing.
-use Rattle.std.specs.Prelude.{ℕ, ◌+◌, ◌/◌, Bool, false, cond, not, List, is_some, Some, None, Option, ◌==◌, nat_lt}
+use Rattle.std.specs.Prelude.{ℕ, ◌+◌, ◌/◌, Bool, false, if◌then◌else◌, not, List, is_some, Some, None, Option, ◌==◌, nat_lt}
 use Rattle.quorum.specs.Below.{select, within}
 use Rattle.quorum.specs.Members.{size}
 use Rattle.quorum.specs.Sets.{either, both, less, single}
@@ -13,10 +13,12 @@ use Rattle.stores.specs.declared.view.Head.{Head}
 use Rattle.stores.specs.declared.view.View.{View}
 use Rattle.manager.specs.declared.need.Need.{Need}
 use Rattle.manager.specs.declared.need.Need.TheVariants.{One, MoreThanHalf}
+use Rattle.rows.specs.Recorders.{all_recorders}
 use Rattle.rows.specs.declared.row.Applied.{Applied}
 use Rattle.rows.specs.declared.row.Confirmed.{Confirmed}
 use Rattle.rows.specs.declared.row.Entered.{Entered}
 use Rattle.rows.specs.declared.row.Gathered.{Gathered}
+use Rattle.rows.specs.declared.row.Recorders.{Recorders}
 use Rattle.rows.specs.declared.row.Reference.{Reference}
 use Rattle.rows.specs.declared.row.Row.{Row}
 use Rattle.rows.specs.declared.row.Stage.{Stage}
@@ -34,8 +36,8 @@ abbrev pub newcomers_of : Head → ℕ → ℕ
 newcomers_of h survivors = less h.set.0 survivors
 
 -- newcomers whose Recorded was not heard, as a member's or a newcomer's
-abbrev pub unheard : Head → ℕ → ℕ → ℕ → ℕ
-unheard h survivors members newcomers = less (newcomers_of h survivors) (either members newcomers)
+abbrev pub unheard : Head → ℕ → Recorders → ℕ
+unheard h survivors x = less (newcomers_of h survivors) (all_recorders x)
 
 -- a set is empty
 abbrev pub nobody : ℕ → Bool
@@ -46,20 +48,21 @@ nobody s = s == 0
 abbrev pub gathering_verdict : Need → ℕ → ℕ → Head → Gathered → View → Verdict
 gathering_verdict need survivors lost h g c =
     let needed = need_of need (size c.set.0) in
-    let missing = unheard h survivors g.members.0 g.newcomers.0 in
-    cond (nat_lt (size (either g.states.0 (less survivors lost))) needed) Reconfigures
-    (cond (nat_lt (size g.states.0) needed) Stays
-    (cond (nobody missing) Records
-    (cond (nobody (both missing lost)) Stays Closes)))
+    let missing = unheard h survivors g.recorders in
+    if nat_lt (size (either g.states.0 (less survivors lost))) needed then Reconfigures
+    else if nat_lt (size g.states.0) needed then Stays
+    else if nobody missing then Records
+    else if nobody (both missing lost) then Stays else Closes
 
 -- of a part heard and those who may still be: who carries the set leads to installing, who can no longer to reconfiguration
 abbrev pub carrying_verdict : (ℕ → ℕ → Bool) → ℕ → ℕ → ℕ → ℕ → Verdict
 carrying_verdict f heard survivors lost set =
-    cond (f heard set) Installs (cond (f (either heard (less survivors lost)) set) Stays Reconfigures)
+    if f heard set then Installs
+    else if f (either heard (less survivors lost)) set then Stays else Reconfigures
 
 -- Confirming: survivors heard as recording members
 abbrev pub confirming_verdict : (ℕ → ℕ → Bool) → ℕ → ℕ → Confirmed → View → Verdict
-confirming_verdict f survivors lost g c = carrying_verdict f (both g.members.0 survivors) survivors lost c.set.0
+confirming_verdict f survivors lost g c = carrying_verdict f (both g.recorders.members.0 survivors) survivors lost c.set.0
 
 -- Applying: who may still send a State, beside those who did; never itself or the lost
 abbrev pub possible_senders : ℕ → ℕ → Head → Applied → Option Reference → ℕ
@@ -79,17 +82,17 @@ need_met need a (Some x) = not (nat_lt (size a.states.0) (need_of need (size x.c
 -- Need met: the head is recorded. It closes where the sources are empty, or where States heard and possible are fewer than needed.
 abbrev pub applying_verdict : Need → ℕ → ℕ → Head → Applied → Verdict
 applying_verdict need r lost h a =
-    cond (need_met need a a.reference) Records
-    (cond (nobody a.sources.0) Closes
-    (cond (nat_lt (size (either a.states.0 (possible_senders r lost h a a.reference))) (need_of need (asked a a.reference))) Closes Stays))
+    if need_met need a a.reference then Records
+    else if nobody a.sources.0 then Closes
+    else if nat_lt (size (either a.states.0 (possible_senders r lost h a a.reference))) (need_of need (asked a a.reference)) then Closes else Stays
 
 -- Entering. A newcomer lost unheard: the recorded view goes. With all heard, recording members among the reference's survivors decide.
 abbrev pub entering_verdict : (ℕ → ℕ → Bool) → ℕ → Head → Entered → Verdict
 entering_verdict f lost h e =
     let survivors = e.reference.survivors.0 in
-    let missing = unheard h survivors e.members.0 e.newcomers.0 in
-    cond (nobody missing) (carrying_verdict f (both e.members.0 survivors) survivors lost e.reference.component.set.0)
-    (cond (nobody (both missing lost)) Stays Forgets)
+    let missing = unheard h survivors e.recorders in
+    if nobody missing then carrying_verdict f (both e.recorders.members.0 survivors) survivors lost e.reference.component.set.0
+    else if nobody (both missing lost) then Stays else Forgets
 
 -- the replicas whose reports were heard
 abbrev pub heard_of : List (Option Report) → ℕ
@@ -102,9 +105,8 @@ round_end f h rs = decided f h rs
 -- Round: a lost member ends it; with all reports of the head heard it is decided
 abbrev pub round_verdict : (ℕ → ℕ → Bool) → ℕ → Head → List (Option Report) → Verdict
 round_verdict f lost h rs =
-    cond (nobody lost)
-    (cond (within h.set.0 (heard_of rs)) (Ends (round_end f h rs).0 (round_end f h rs).1) Stays)
-    (Ends LostMember None)
+    if nobody lost then (if within h.set.0 (heard_of rs) then Ends (round_end f h rs).0 (round_end f h rs).1 else Stays)
+    else Ends LostMember None
 
 -- with a component view; without one nothing is judged
 abbrev pub with_component : Option View → (View → Verdict) → Verdict

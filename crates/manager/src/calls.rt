@@ -1,23 +1,25 @@
 // The calls of a host, each on one page and one row. Any argument is allowed: a call does its work or is refused, and
 // then page and row are as they were.
-ghost use Rattle.std.specs.Prelude.{◌≡◌, ◌<◌};
+ghost use Rattle.std.specs.Prelude.{◌≡◌};
 ghost use Rattle.manager.specs.Calls.{following, heard_or_not, losing, empty_row, started, viewed, delivered, lost_at, stopped_at, started_at, answer_of, page_left, row_left};
 ghost use Rattle.manager.specs.Effects.{in_mode};
 ghost use Rattle.manager.specs.Hearing.{hears};
 
 use super::answer::Answer;
-use super::effect::{close, judge_head, judge_loss, spare};
+use super::effect::{close, spare};
 use super::hear::hear;
 use super::hearing::Hearing;
 use super::need::Need;
 use super::refuse::{check_call, check_delivery, check_loss, check_start, check_view};
-use super::take_up::{report_message, take_up};
-use quorum::{Fault, Layer, QuorumRule, ReplicaSet};
+use super::take_up::report_message;
+use super::terms::Terms;
+use quorum::{Fault, Layer, QuorumRule, Replica, ReplicaSet};
 use rounds::Outcome;
 use rows::{Message, Posts, Row, Stage};
 use stores::{Head, Mode, Page};
 
 // The replica takes up a view, announced under a stamp.
+#[tactic(auto, unfolding(crate::specs::Calls::viewed))]
 pub fn view<R: QuorumRule>(
     rule: &R,
     need: Need,
@@ -30,64 +32,62 @@ pub fn view<R: QuorumRule>(
     ensures page { page.new ≡ page_left page.old (viewed (R.carries rule.now) need replica page.old row.old head) }
     ensures row { row.new ≡ row_left row.old (viewed (R.carries rule.now) need replica page.old row.old head) }
 {
-    check_view(replica, page, row, head)?;
-    Ok(take_up(rule, need, replica, page, row, head))
+    let replica = check_view(replica, page, row, head)?;
+    let terms = Terms {
+        rule,
+        need,
+        replica,
+    };
+    Ok(terms.take_up(page, row, head))
 }
 
-// What follows from a message that was heard under the head.
-fn follow<R: QuorumRule>(
-    rule: &R,
-    need: Need,
-    replica: u8,
-    page: &mut Page,
-    row: &mut Row,
-    head: Head,
-    hearing: Hearing,
-) -> Answer
-    ensures answer { result ≡ (following (R.carries rule.now) need replica page.old row.old head hearing).answer }
-    ensures page { page.new ≡ (following (R.carries rule.now) need replica page.old row.old head hearing).page }
-    ensures row { row.new ≡ (following (R.carries rule.now) need replica page.old row.old head hearing).row }
-{
-    match hearing {
-        Hearing::Heard => judge_head(rule, need, replica, page, row, None),
-        Hearing::Answered => {
-            let report = report_message(replica, head, page);
-            judge_head(rule, need, replica, page, row, Some(report))
-        }
-        Hearing::Outdone => {
-            spare(page, row);
-            Answer {
-                posts: Posts::Nothing,
-                ended: Some((Outcome::Spare, None)),
+impl<R: QuorumRule> Terms<'_, R> {
+    // What follows from a message that was heard under the head.
+    fn follow(&self, page: &mut Page, row: &mut Row, head: Head, hearing: Hearing) -> Answer
+        ensures answer { result ≡ (following (R.carries self.now.rule.now) self.now.need self.now.replica page.old row.old head hearing).answer }
+        ensures page { page.new ≡ (following (R.carries self.now.rule.now) self.now.need self.now.replica page.old row.old head hearing).page }
+        ensures row { row.new ≡ (following (R.carries self.now.rule.now) self.now.need self.now.replica page.old row.old head hearing).row }
+    {
+        match hearing {
+            Hearing::Heard => self.judge_head(page, row, None),
+            Hearing::Answered => {
+                let report = report_message(self.replica, head, page);
+                self.judge_head(page, row, Some(report))
+            }
+            Hearing::Outdone => {
+                spare(page, row);
+                Answer {
+                    posts: Posts::Nothing,
+                    ended: Some((Outcome::Spare, None)),
+                }
+            }
+            Hearing::Aborted => {
+                close(row);
+                Answer::quiet()
             }
         }
-        Hearing::Aborted => {
-            close(row);
-            Answer::quiet()
-        }
     }
-}
 
-fn hear_and_follow<R: QuorumRule>(
-    rule: &R,
-    need: Need,
-    replica: u8,
-    page: &mut Page,
-    row: &mut Row,
-    message: &Message,
-) -> Result<Answer, Fault>
-    requires { message.now.sender < 16 }
-    ensures answer { result ≡ answer_of (heard_or_not (R.carries rule.now) need replica page.old row.old message.now.head (hears page.old row.old message.now.sender message.now.body)) }
-    ensures page { page.new ≡ page_left page.old (heard_or_not (R.carries rule.now) need replica page.old row.old message.now.head (hears page.old row.old message.now.sender message.now.body)) }
-    ensures row { row.new ≡ row_left row.old (heard_or_not (R.carries rule.now) need replica page.old row.old message.now.head (hears page.old row.old message.now.sender message.now.body)) }
-{
-    match hear(page, row, message.sender, &message.body) {
-        Ok(hearing) => Ok(follow(rule, need, replica, page, row, message.head, hearing)),
-        Err(reason) => Err(reason.at(replica, Layer::Manager)),
+    fn hear_and_follow(
+        &self,
+        page: &mut Page,
+        row: &mut Row,
+        sender: Replica,
+        message: &Message,
+    ) -> Result<Answer, Fault>
+        ensures answer { result ≡ answer_of (heard_or_not (R.carries self.now.rule.now) self.now.need self.now.replica page.old row.old message.now.head (hears page.old row.old sender message.now.body)) }
+        ensures page { page.new ≡ page_left page.old (heard_or_not (R.carries self.now.rule.now) self.now.need self.now.replica page.old row.old message.now.head (hears page.old row.old sender message.now.body)) }
+        ensures row { row.new ≡ row_left row.old (heard_or_not (R.carries self.now.rule.now) self.now.need self.now.replica page.old row.old message.now.head (hears page.old row.old sender message.now.body)) }
+    {
+        match hear(page, row, sender, &message.body) {
+            Ok(hearing) => Ok(self.follow(page, row, message.head, hearing)),
+            Err(reason) => Err(reason.at(self.replica.number(), Layer::Manager)),
+        }
     }
 }
 
 // A message is delivered to the replica.
+#[tactic(auto, unfolding(crate::specs::Calls::delivered))]
 pub fn deliver<R: QuorumRule>(
     rule: &R,
     need: Need,
@@ -100,8 +100,13 @@ pub fn deliver<R: QuorumRule>(
     ensures page { page.new ≡ page_left page.old (delivered (R.carries rule.now) need replica page.old row.old message.now) }
     ensures row { row.new ≡ row_left row.old (delivered (R.carries rule.now) need replica page.old row.old message.now) }
 {
-    check_delivery(replica, page, row, message)?;
-    hear_and_follow(rule, need, replica, page, row, message)
+    let (replica, sender) = check_delivery(replica, page, row, message)?;
+    let terms = Terms {
+        rule,
+        need,
+        replica,
+    };
+    terms.hear_and_follow(page, row, sender, message)
 }
 
 fn mark_lost(row: &mut Row, lost: u8)
@@ -111,6 +116,7 @@ fn mark_lost(row: &mut Row, lost: u8)
 }
 
 // A replica of the head is lost to this one.
+#[tactic(auto, unfolding(crate::specs::Calls::lost_at))]
 pub fn lose<R: QuorumRule>(
     rule: &R,
     need: Need,
@@ -123,9 +129,14 @@ pub fn lose<R: QuorumRule>(
     ensures page { page.new ≡ page_left page.old (lost_at (R.carries rule.now) need replica page.old row.old lost) }
     ensures row { row.new ≡ row_left row.old (lost_at (R.carries rule.now) need replica page.old row.old lost) }
 {
-    check_loss(replica, page, row, lost)?;
+    let replica = check_loss(replica, page, row, lost)?;
+    let terms = Terms {
+        rule,
+        need,
+        replica,
+    };
     mark_lost(row, lost);
-    Ok(judge_loss(rule, need, replica, page, row))
+    Ok(terms.judge_loss(page, row))
 }
 
 // A row that is up or down and empty.
@@ -139,6 +150,7 @@ fn empty(row: &mut Row, up: bool)
 }
 
 // The replica stops: its row is down and empty, its page as it was.
+#[tactic(auto, unfolding(crate::specs::Calls::stopped_at))]
 pub fn stop(replica: u8, page: &Page, row: &mut Row) -> Result<Answer, Fault>
     ensures answer { result ≡ answer_of (stopped_at replica page.now row.old) }
     ensures page { page.now ≡ page_left page.now (stopped_at replica page.now row.old) }
@@ -160,6 +172,7 @@ fn turn_mode(page: &mut Page)
 }
 
 // The replica starts: its row is up and empty.
+#[tactic(auto, unfolding(crate::specs::Calls::started_at))]
 pub fn start(replica: u8, page: &mut Page, row: &mut Row) -> Result<Answer, Fault>
     ensures answer { result ≡ answer_of (started_at replica page.old row.old) }
     ensures page { page.new ≡ page_left page.old (started_at replica page.old row.old) }

@@ -1,14 +1,15 @@
 // What judging comes to: recording, installing, settling, closing.
-ghost use Rattle.std.specs.Prelude.{◌≡◌, ℕ, ◌<◌, Some};
-ghost use Rattle.manager.specs.Effects.{closed, raised, component_page, component_row, spare_page, spare_row, installing, settling, carried_out, posts_of, recording, recorded_message, next_of, next_component, member_entry, newcomer_entry, stage_entry, entry_of, judged, without_recording, judged_after_loss};
+ghost use Rattle.std.specs.Prelude.{◌≡◌};
+ghost use Rattle.manager.specs.Effects.{closed, raised, component_page, component_row, spare_page, spare_row, installing, settling, carried_out, posts_of, recording, recorded_message, next_of, next_component, member_entry, newcomer_entry, entry_of, judged, without_recording, judged_after_loss};
 
 use super::answer::Answer;
-use super::judge::judge;
-use super::need::Need;
+use super::terms::Terms;
 use super::verdict::Verdict;
-use quorum::{QuorumRule, ReplicaSet};
+use quorum::{QuorumRule, Replica, ReplicaSet};
 use rounds::Outcome;
-use rows::{Applied, Body, Confirmed, Entered, Gathered, Message, Part, Posts, Row, Stage};
+use rows::{
+    Applied, Body, Confirmed, Entered, Gathered, Message, Part, Posts, Recorders, Row, Stage,
+};
 use stores::{Head, Mode, Number, Page, Recorded, View};
 
 // The head closes: idle, with nothing lost or heard.
@@ -23,10 +24,7 @@ pub(crate) fn close(row: &mut Row)
 fn raise(mark: Option<Number>, number: Number) -> Number
     ensures { result ≡ raised mark number.0 }
 {
-    let Some(mark) = mark else {
-        return number;
-    };
-    Number(mark.0.max(number.0))
+    mark.map_or(number, |mark| mark.max(number))
 }
 
 // A view becomes the component view, its set the survivors, and the head closes.
@@ -66,7 +64,7 @@ fn install(page: &mut Page, row: &mut Row)
 }
 
 // A round ends: with no view, on one that holds the replica, or on one that leaves it out.
-fn settle(replica: u8, page: &mut Page, row: &mut Row, settled: Option<View>)
+fn settle(replica: Replica, page: &mut Page, row: &mut Row, settled: Option<View>)
     ensures page { page.new ≡ (settling replica page.old row.old Posts.Nothing Outcome.Spare settled).page }
     ensures row { row.new ≡ (settling replica page.old row.old Posts.Nothing Outcome.Spare settled).row }
 {
@@ -74,7 +72,7 @@ fn settle(replica: u8, page: &mut Page, row: &mut Row, settled: Option<View>)
         close(row);
         return;
     };
-    if view.set.contains(replica) {
+    if view.set.contains(replica.number()) {
         page.mark = Some(raise(page.mark, view.number));
         hold(page, row, view);
     } else {
@@ -84,7 +82,7 @@ fn settle(replica: u8, page: &mut Page, row: &mut Row, settled: Option<View>)
 
 // Carries a verdict out; recording is carried out before.
 pub(crate) fn carry_out(
-    replica: u8,
+    replica: Replica,
     page: &mut Page,
     row: &mut Row,
     posts: Posts,
@@ -129,7 +127,7 @@ pub(crate) fn posts_of(first: Option<Message>, second: Option<Message>) -> Posts
 }
 
 // Sets the recorded view, raises the mark to it, and gives the message that tells of it.
-fn write_entry(replica: u8, page: &mut Page, head: Head, number: Number, part: Part) -> Message
+fn write_entry(replica: Replica, page: &mut Page, head: Head, number: Number, part: Part) -> Message
     ensures message { result ≡ recorded_message replica head number.0 part }
     ensures page { page.new ≡ recording page.old.mode page.old head number.0 }
 {
@@ -142,7 +140,7 @@ fn write_entry(replica: u8, page: &mut Page, head: Head, number: Number, part: P
         stamp: head.stamp,
     });
     Message {
-        sender: replica,
+        sender: replica.number(),
         head,
         body: Body::Recorded(number, part),
     }
@@ -152,7 +150,7 @@ fn write_entry(replica: u8, page: &mut Page, head: Head, number: Number, part: P
 fn next_number(number: Number) -> Option<Number>
     ensures { result ≡ next_of number }
 {
-    if number.0 < 1_000_000_000 {
+    if number < Number::HIGHEST {
         Some(Number(number.0 + 1))
     } else {
         None
@@ -161,7 +159,7 @@ fn next_number(number: Number) -> Option<Number>
 
 // A member records the head with its component view's number plus one. Its own Recorded counts as heard.
 fn record_member(
-    replica: u8,
+    replica: Replica,
     page: &mut Page,
     row: &mut Row,
     head: Head,
@@ -178,8 +176,7 @@ fn record_member(
         return None;
     };
     let confirmed = Confirmed {
-        members: gathered.members.with(replica),
-        newcomers: gathered.newcomers,
+        recorders: gathered.recorders.with(replica.number(), Part::Member),
         answered: gathered.answered,
     };
     row.stage = Stage::Confirming(head, confirmed);
@@ -188,7 +185,7 @@ fn record_member(
 
 // A newcomer records the head with the reference's number plus one, and joins.
 fn record_newcomer(
-    replica: u8,
+    replica: Replica,
     page: &mut Page,
     row: &mut Row,
     head: Head,
@@ -206,55 +203,25 @@ fn record_newcomer(
     };
     let entered = Entered {
         reference,
-        members: ReplicaSet::EMPTY,
-        newcomers: ReplicaSet::of(replica),
+        recorders: Recorders::NOBODY.with(replica.number(), Part::Newcomer),
     };
     row.stage = Stage::Entering(head, entered);
     page.mode = Mode::Joining;
     Some(write_entry(replica, page, head, number, Part::Newcomer))
 }
 
-fn record_stage(replica: u8, page: &mut Page, row: &mut Row) -> Option<Message>
-    ensures message { result ≡ (stage_entry replica page.old row.old row.old.stage).message }
-    ensures page { page.new ≡ (stage_entry replica page.old row.old row.old.stage).page }
-    ensures row { row.new ≡ (stage_entry replica page.old row.old row.old.stage).row }
+// The head is recorded.
+#[tactic(auto, unfolding(crate::specs::Effects::entry_of))]
+pub(crate) fn record(replica: Replica, page: &mut Page, row: &mut Row) -> Option<Message>
+    ensures message { result ≡ (entry_of replica page.old row.old).message }
+    ensures page { page.new ≡ (entry_of replica page.old row.old).page }
+    ensures row { row.new ≡ (entry_of replica page.old row.old).row }
 {
     match row.stage {
         Stage::Gathering(head, gathered) => record_member(replica, page, row, head, gathered),
         Stage::Applying(head, applied) => record_newcomer(replica, page, row, head, applied),
         _ => None,
     }
-}
-
-// The head is recorded.
-pub(crate) fn record(replica: u8, page: &mut Page, row: &mut Row) -> Option<Message>
-    ensures message { result ≡ (entry_of replica page.old row.old).message }
-    ensures page { page.new ≡ (entry_of replica page.old row.old).page }
-    ensures row { row.new ≡ (entry_of replica page.old row.old).row }
-{
-    record_stage(replica, page, row)
-}
-
-// The head is judged, and again after a recording; `first` is a message that the call posts before.
-pub(crate) fn judge_head<R: QuorumRule>(
-    rule: &R,
-    need: Need,
-    replica: u8,
-    page: &mut Page,
-    row: &mut Row,
-    first: Option<Message>,
-) -> Answer
-    ensures answer { result ≡ (judged (R.carries rule.now) need replica page.old row.old first).answer }
-    ensures page { page.new ≡ (judged (R.carries rule.now) need replica page.old row.old first).page }
-    ensures row { row.new ≡ (judged (R.carries rule.now) need replica page.old row.old first).row }
-{
-    let verdict = judge(rule, need, replica, page, row);
-    let Verdict::Records = verdict else {
-        return carry_out(replica, page, row, posts_of(first, None), verdict);
-    };
-    let second = record(replica, page, row);
-    let again = judge(rule, need, replica, page, row);
-    carry_out(replica, page, row, posts_of(first, second), again)
 }
 
 // A loss takes away and adds nothing that was heard, so it never leads to recording.
@@ -267,18 +234,34 @@ fn without_recording(verdict: Verdict) -> Verdict
     }
 }
 
-// The head is judged after a loss.
-pub(crate) fn judge_loss<R: QuorumRule>(
-    rule: &R,
-    need: Need,
-    replica: u8,
-    page: &mut Page,
-    row: &mut Row,
-) -> Answer
-    ensures answer { result ≡ (judged_after_loss (R.carries rule.now) need replica page.old row.old).answer }
-    ensures page { page.new ≡ (judged_after_loss (R.carries rule.now) need replica page.old row.old).page }
-    ensures row { row.new ≡ (judged_after_loss (R.carries rule.now) need replica page.old row.old).row }
-{
-    let verdict = without_recording(judge(rule, need, replica, page, row));
-    carry_out(replica, page, row, Posts::Nothing, verdict)
+impl<R: QuorumRule> Terms<'_, R> {
+    // The head is judged, and again after a recording; `first` is a message that the call posts before.
+    pub(crate) fn judge_head(
+        &self,
+        page: &mut Page,
+        row: &mut Row,
+        first: Option<Message>,
+    ) -> Answer
+        ensures answer { result ≡ (judged (R.carries self.now.rule.now) self.now.need self.now.replica page.old row.old first).answer }
+        ensures page { page.new ≡ (judged (R.carries self.now.rule.now) self.now.need self.now.replica page.old row.old first).page }
+        ensures row { row.new ≡ (judged (R.carries self.now.rule.now) self.now.need self.now.replica page.old row.old first).row }
+    {
+        let verdict = self.judge(page, row);
+        let Verdict::Records = verdict else {
+            return carry_out(self.replica, page, row, posts_of(first, None), verdict);
+        };
+        let second = record(self.replica, page, row);
+        let again = self.judge(page, row);
+        carry_out(self.replica, page, row, posts_of(first, second), again)
+    }
+
+    // The head is judged after a loss.
+    pub(crate) fn judge_loss(&self, page: &mut Page, row: &mut Row) -> Answer
+        ensures answer { result ≡ (judged_after_loss (R.carries self.now.rule.now) self.now.need self.now.replica page.old row.old).answer }
+        ensures page { page.new ≡ (judged_after_loss (R.carries self.now.rule.now) self.now.need self.now.replica page.old row.old).page }
+        ensures row { row.new ≡ (judged_after_loss (R.carries self.now.rule.now) self.now.need self.now.replica page.old row.old).row }
+    {
+        let verdict = without_recording(self.judge(page, row));
+        carry_out(self.replica, page, row, Posts::Nothing, verdict)
+    }
 }

@@ -1,34 +1,26 @@
 // What each stage hears: the row is changed in place.
-ghost use Rattle.std.specs.Prelude.{◌≡◌, ℕ, ◌+◌, ◌<◌, is_some, if◌then◌else◌};
-ghost use Rattle.rounds.specs.Reports.{reported};
+ghost use Rattle.std.specs.Prelude.{◌≡◌, if◌then◌else◌};
 ghost use Rattle.manager.specs.Effects.{in_stage};
-ghost use Rattle.manager.specs.Hearing.{one_above, as_recorded, as_component, reaches_mark, as_reference, fixed, gathered_recorded, confirmed_recorded, entered_recorded, base_of, above, outdoes, may_hear, hears_gathering, hears_confirming, hears_applying, hears_entering, hears_round, hears_stage, hears, hearing_of, stage_left};
+ghost use Rattle.manager.specs.Hearing.{one_above, as_recorded, as_component, reaches_mark, as_reference, fixed, hears_recorded, base_of, outdoes, may_hear, hears_gathering, hears_confirming, hears_applying, hears_entering, hears_round, hears, hearing_of, left_of};
 
 use super::hearing::Hearing;
-use super::judge::is_reported;
-use quorum::{Reason, ReplicaSet};
+use quorum::{Reason, Replica, ReplicaSet};
 use rounds::Report;
-use rows::{Body, Confirmed, Entered, Gathered, Message, Part, Reference, Row, Stage};
+use rows::{Applied, Body, Confirmed, Entered, Gathered, Part, Recorders, Reference, Row, Stage};
 use stores::{Mode, Number, Page, Recorded, View};
 
 // One above the component view's number.
 fn is_one_above(component: Option<View>, number: Number) -> bool
     ensures { result ≡ one_above component number }
 {
-    let Some(component) = component else {
-        return false;
-    };
-    u64::from(number.0) == u64::from(component.number.0) + 1
+    component.is_some_and(|component| u64::from(number.0) == u64::from(component.number.0) + 1)
 }
 
 // The recorded view's number.
 fn is_recorded(recorded: Option<Recorded>, number: Number) -> bool
     ensures { result ≡ as_recorded recorded number }
 {
-    let Some(recorded) = recorded else {
-        return false;
-    };
-    number.0 == recorded.view.number.0
+    recorded.is_some_and(|recorded| number == recorded.view.number)
 }
 
 fn is_component(component: Option<View>, view: View) -> bool
@@ -41,10 +33,7 @@ fn is_component(component: Option<View>, view: View) -> bool
 fn reaches_mark(mark: Option<Number>, number: Number) -> bool
     ensures { result ≡ reaches_mark mark number }
 {
-    let Some(mark) = mark else {
-        return true;
-    };
-    u64::from(mark.0) <= u64::from(number.0) + 1
+    mark.is_none_or(|mark| u64::from(mark.0) <= u64::from(number.0) + 1)
 }
 
 fn is_reference(reference: Option<Reference>, view: View) -> bool
@@ -57,13 +46,10 @@ fn is_reference(reference: Option<Reference>, view: View) -> bool
 fn fix(reference: Option<Reference>, component: View, survivors: ReplicaSet) -> Reference
     ensures { result ≡ fixed reference component survivors }
 {
-    let Some(reference) = reference else {
-        return Reference {
-            component,
-            survivors,
-        };
-    };
-    reference
+    reference.unwrap_or(Reference {
+        component,
+        survivors,
+    })
 }
 
 // The number that a round starts from.
@@ -118,94 +104,169 @@ fn may_hear(hears: bool, already: bool) -> Result<(), Reason>
     Ok(())
 }
 
-fn hear_stage(page: &Page, row: &mut Row, sender: u8, body: &Body) -> Result<Hearing, Reason>
-    requires { sender < 16 }
-    ensures answer { result ≡ hearing_of (hears_stage page.now row.old.survivors sender body.now row.old.stage) }
-    ensures row { row.new ≡ in_stage (stage_left row.old.stage (hears_stage page.now row.old.survivors sender body.now row.old.stage)) row.old }
+// A Recorded is heard once from a sender, in whichever part.
+fn hear_recorded(
+    recorders: &mut Recorders,
+    hears: bool,
+    sender: Replica,
+    part: Part,
+) -> Result<Hearing, Reason>
+    ensures answer { result ≡ hearing_of (hears_recorded hears recorders.old sender part) }
+    ensures recorders { recorders.new ≡ left_of recorders.old (hears_recorded hears recorders.old sender part) }
 {
-    let survivors = row.survivors;
-    match (&mut row.stage, body) {
-        (Stage::Gathering(_, gathered), Body::State(component, _)) => {
-            let hears = survivors.contains(sender) && is_component(page.component, *component);
-            may_hear(hears, gathered.states.contains(sender))?;
-            gathered.states = gathered.states.with(sender);
+    may_hear(hears, recorders.all().contains(sender.number()))?;
+    *recorders = recorders.with(sender.number(), part);
+    Ok(Hearing::Heard)
+}
+
+#[tactic(auto, using(crate::proofs::Turns::heard_answers))]
+fn hear_gathering(
+    page: &Page,
+    survivors: ReplicaSet,
+    gathered: &mut Gathered,
+    sender: Replica,
+    body: &Body,
+) -> Result<Hearing, Reason>
+    ensures answer { result ≡ hearing_of (hears_gathering page.now survivors gathered.old sender body.now) }
+    ensures gathered { gathered.new ≡ left_of gathered.old (hears_gathering page.now survivors gathered.old sender body.now) }
+{
+    match body {
+        Body::State(component, _) => {
+            let hears = survivors.contains(sender.number())
+                && is_component(page.component, *component);
+            may_hear(hears, gathered.states.contains(sender.number()))?;
+            gathered.states = gathered.states.with(sender.number());
             Ok(Hearing::Heard)
         }
-        (Stage::Gathering(_, gathered), Body::Recorded(number, part)) => {
-            let already = gathered.members.union(gathered.newcomers).contains(sender);
-            may_hear(is_one_above(page.component, *number), already)?;
-            match part {
-                Part::Member => gathered.members = gathered.members.with(sender),
-                Part::Newcomer => gathered.newcomers = gathered.newcomers.with(sender),
-            }
-            Ok(Hearing::Heard)
+        Body::Recorded(number, part) => {
+            let hears = is_one_above(page.component, *number);
+            hear_recorded(&mut gathered.recorders, hears, sender, *part)
         }
-        (Stage::Gathering(_, gathered), Body::Report(report)) => {
-            may_hear(
-                matches!(report.mode, Mode::Reconfiguration),
-                gathered.answered,
-            )?;
+        Body::Report(report) => {
+            let hears = report.mode == Mode::Reconfiguration;
+            may_hear(hears, gathered.answered)?;
             gathered.answered = true;
             Ok(Hearing::Answered)
         }
-        (Stage::Confirming(_, confirmed), Body::Recorded(number, part)) => {
-            let already = confirmed
-                .members
-                .union(confirmed.newcomers)
-                .contains(sender);
-            may_hear(is_recorded(page.recorded, *number), already)?;
-            match part {
-                Part::Member => confirmed.members = confirmed.members.with(sender),
-                Part::Newcomer => confirmed.newcomers = confirmed.newcomers.with(sender),
-            }
-            Ok(Hearing::Heard)
+        Body::Abort | Body::Join => Err(Reason::NotHeard),
+    }
+}
+
+#[tactic(auto, using(crate::proofs::Turns::heard_answers))]
+fn hear_confirming(
+    page: &Page,
+    confirmed: &mut Confirmed,
+    sender: Replica,
+    body: &Body,
+) -> Result<Hearing, Reason>
+    ensures answer { result ≡ hearing_of (hears_confirming page.now confirmed.old sender body.now) }
+    ensures confirmed { confirmed.new ≡ left_of confirmed.old (hears_confirming page.now confirmed.old sender body.now) }
+{
+    match body {
+        Body::Recorded(number, part) => {
+            let hears = is_recorded(page.recorded, *number);
+            hear_recorded(&mut confirmed.recorders, hears, sender, *part)
         }
-        (Stage::Confirming(_, confirmed), Body::Report(report)) => {
-            may_hear(
-                matches!(report.mode, Mode::Reconfiguration),
-                confirmed.answered,
-            )?;
+        Body::Report(report) => {
+            let hears = report.mode == Mode::Reconfiguration;
+            may_hear(hears, confirmed.answered)?;
             confirmed.answered = true;
             Ok(Hearing::Answered)
         }
-        (Stage::Applying(_, applied), Body::State(component, theirs)) => {
-            let fits = reaches_mark(page.mark, component.number)
+        Body::State(_, _) | Body::Abort | Body::Join => Err(Reason::NotHeard),
+    }
+}
+
+fn hear_applying(
+    page: &Page,
+    applied: &mut Applied,
+    sender: Replica,
+    body: &Body,
+) -> Result<Hearing, Reason>
+    ensures answer { result ≡ hearing_of (hears_applying page.now applied.old sender body.now) }
+    ensures applied { applied.new ≡ left_of applied.old (hears_applying page.now applied.old sender body.now) }
+{
+    match body {
+        Body::State(component, theirs) => {
+            let hears = reaches_mark(page.mark, component.number)
                 && is_reference(applied.reference, *component);
-            may_hear(fits, applied.states.contains(sender))?;
-            applied.states = applied.states.with(sender);
+            may_hear(hears, applied.states.contains(sender.number()))?;
+            applied.states = applied.states.with(sender.number());
             applied.reference = Some(fix(applied.reference, *component, *theirs));
             Ok(Hearing::Heard)
         }
-        (Stage::Applying(_, applied), Body::Join) => {
-            may_hear(applied.reference.is_none(), applied.joins.contains(sender))?;
-            applied.sources = applied.sources.without(sender);
-            applied.joins = applied.joins.with(sender);
+        Body::Join => {
+            may_hear(
+                applied.reference.is_none(),
+                applied.joins.contains(sender.number()),
+            )?;
+            applied.sources = applied.sources.without(sender.number());
+            applied.joins = applied.joins.with(sender.number());
             Ok(Hearing::Heard)
         }
-        (Stage::Applying(_, _), Body::Abort) => Ok(Hearing::Aborted),
-        (Stage::Entering(_, entered), Body::Recorded(number, part)) => {
-            let already = entered.members.union(entered.newcomers).contains(sender);
-            may_hear(is_recorded(page.recorded, *number), already)?;
-            match part {
-                Part::Member => entered.members = entered.members.with(sender),
-                Part::Newcomer => entered.newcomers = entered.newcomers.with(sender),
-            }
-            Ok(Hearing::Heard)
+        Body::Abort => Ok(Hearing::Aborted),
+        Body::Recorded(_, _) | Body::Report(_) => Err(Reason::NotHeard),
+    }
+}
+
+#[tactic(auto, using(crate::proofs::Turns::heard_answers))]
+fn hear_entering(
+    page: &Page,
+    entered: &mut Entered,
+    sender: Replica,
+    body: &Body,
+) -> Result<Hearing, Reason>
+    ensures answer { result ≡ hearing_of (hears_entering page.now entered.old sender body.now) }
+    ensures entered { entered.new ≡ left_of entered.old (hears_entering page.now entered.old sender body.now) }
+{
+    match body {
+        Body::Recorded(number, part) => {
+            let hears = is_recorded(page.recorded, *number);
+            hear_recorded(&mut entered.recorders, hears, sender, *part)
         }
-        (Stage::Round(_, reports), Body::Report(report)) => {
-            may_hear(true, is_reported(reports, sender))?;
-            reports[sender as usize] = Some(*report);
+        Body::State(_, _) | Body::Abort | Body::Join | Body::Report(_) => Err(Reason::NotHeard),
+    }
+}
+
+fn hear_round(
+    page: &Page,
+    reports: &mut [Option<Report>; 16],
+    sender: Replica,
+    body: &Body,
+) -> Result<Hearing, Reason>
+    ensures answer { result ≡ hearing_of (hears_round page.now reports.old sender body.now) }
+    ensures reports { reports.new ≡ left_of reports.old (hears_round page.now reports.old sender body.now) }
+{
+    match body {
+        Body::Report(report) => {
+            may_hear(true, reports[sender.index()].is_some())?;
+            reports[sender.index()] = Some(*report);
             Ok(hear_report(page, report))
         }
-        _ => Err(Reason::NotHeard),
+        Body::State(_, _) | Body::Abort | Body::Join | Body::Recorded(_, _) => Err(
+            Reason::NotHeard,
+        ),
     }
 }
 
 // Hears what the sender tells, or says why not.
-pub(crate) fn hear(page: &Page, row: &mut Row, sender: u8, body: &Body) -> Result<Hearing, Reason>
-    requires { sender < 16 }
+#[tactic(auto, using(crate::proofs::Turns::turned_answers, crate::proofs::Turns::turned_leaves), unfolding(crate::specs::Hearing::hears))]
+pub(crate) fn hear(
+    page: &Page,
+    row: &mut Row,
+    sender: Replica,
+    body: &Body,
+) -> Result<Hearing, Reason>
     ensures answer { result ≡ hearing_of (hears page.now row.old sender body.now) }
-    ensures row { row.new ≡ in_stage (stage_left row.old.stage (hears page.now row.old sender body.now)) row.old }
+    ensures row { row.new ≡ in_stage (left_of row.old.stage (hears page.now row.old sender body.now)) row.old }
 {
-    hear_stage(page, row, sender, body)
+    let survivors = row.survivors;
+    match &mut row.stage {
+        Stage::Idle => Err(Reason::NotHeard),
+        Stage::Gathering(_, gathered) => hear_gathering(page, survivors, gathered, sender, body),
+        Stage::Confirming(_, confirmed) => hear_confirming(page, confirmed, sender, body),
+        Stage::Applying(_, applied) => hear_applying(page, applied, sender, body),
+        Stage::Entering(_, entered) => hear_entering(page, entered, sender, body),
+        Stage::Round(_, reports) => hear_round(page, reports, sender, body),
+    }
 }

@@ -1,175 +1,49 @@
 // Judging a head, stage by stage.
-ghost use Rattle.std.specs.Prelude.{◌≡◌, ℕ, ◌<◌, is_some};
-ghost use Rattle.manager.specs.Verdicts.{gathering_verdict, carrying_verdict, confirming_verdict, possible_senders, asked, need_met, applying_verdict, entering_verdict, unheard, heard_of, round_end, round_verdict, stage_verdict, verdict_of};
-ghost use Rattle.rounds.specs.Reports.{reported};
+ghost use Rattle.std.specs.Prelude.{◌≡◌, ◌<◌};
+ghost use Rattle.manager.specs.Verdicts.{gathering_verdict, carrying_verdict, confirming_verdict, possible_senders, asked, need_met, applying_verdict, entering_verdict, unheard, heard_of, round_end, round_verdict, verdict_of};
 
 use super::need::Need;
+use super::terms::Terms;
 use super::verdict::Verdict;
-use quorum::{QuorumRule, ReplicaSet};
+use quorum::{QuorumRule, Replica, ReplicaSet};
 use rounds::{Outcome, Report, decide};
-use rows::{Applied, Confirmed, Entered, Gathered, Reference, Row, Stage};
+use rows::{Applied, Confirmed, Entered, Gathered, Recorders, Reference, Row, Stage};
 use stores::{Head, Page, View};
 
 // Newcomers, members of the head outside the survivors, whose Recorded was not heard.
-fn unheard(
-    head: Head,
-    survivors: ReplicaSet,
-    members: ReplicaSet,
-    newcomers: ReplicaSet,
-) -> ReplicaSet
-    ensures { result.0 ≡ unheard head survivors.0 members.0 newcomers.0 }
+fn unheard(head: Head, survivors: ReplicaSet, recorders: Recorders) -> ReplicaSet
+    ensures { result.0 ≡ unheard head survivors.0 recorders }
 {
-    head.set
-        .difference(survivors)
-        .difference(members.union(newcomers))
-}
-
-fn judge_gathering(
-    need: Need,
-    survivors: ReplicaSet,
-    lost: ReplicaSet,
-    head: Head,
-    gathered: Gathered,
-    component: View,
-) -> Verdict
-    ensures { result ≡ gathering_verdict need survivors.0 lost.0 head gathered component }
-{
-    let needed = need.of(component.set.len());
-    let possible = gathered.states.union(survivors.difference(lost));
-    if possible.len() < needed {
-        return Verdict::Reconfigures;
-    }
-    if gathered.states.len() < needed {
-        return Verdict::Stays;
-    }
-    let missing = unheard(head, survivors, gathered.members, gathered.newcomers);
-    if missing.is_empty() {
-        return Verdict::Records;
-    }
-    if missing.intersection(lost).is_empty() {
-        return Verdict::Stays;
-    }
-    Verdict::Closes
-}
-
-// Of those heard and those who may still be, who carries the set?
-fn judge_carrying<R: QuorumRule>(
-    rule: &R,
-    heard: ReplicaSet,
-    survivors: ReplicaSet,
-    lost: ReplicaSet,
-    set: ReplicaSet,
-) -> Verdict
-    ensures { result ≡ carrying_verdict (R.carries rule.now) heard.0 survivors.0 lost.0 set.0 }
-{
-    if rule.carries(heard, set) {
-        return Verdict::Installs;
-    }
-    if rule.carries(heard.union(survivors.difference(lost)), set) {
-        return Verdict::Stays;
-    }
-    Verdict::Reconfigures
-}
-
-fn judge_confirming<R: QuorumRule>(
-    rule: &R,
-    survivors: ReplicaSet,
-    lost: ReplicaSet,
-    confirmed: Confirmed,
-    component: View,
-) -> Verdict
-    ensures { result ≡ confirming_verdict (R.carries rule.now) survivors.0 lost.0 confirmed component }
-{
-    let heard = confirmed.members.intersection(survivors);
-    judge_carrying(rule, heard, survivors, lost, component.set)
+    head.set.difference(survivors).difference(recorders.all())
 }
 
 // Who may still send a State: the sources or, with a reference, its members in the head; never itself or the lost.
-fn possible_senders(replica: u8, lost: ReplicaSet, head: Head, applied: Applied) -> ReplicaSet
-    ensures { result.0 ≡ possible_senders replica lost.0 head applied applied.reference }
+fn possible_senders(replica: Replica, lost: ReplicaSet, head: Head, applied: &Applied) -> ReplicaSet
+    ensures { result.0 ≡ possible_senders replica lost.0 head applied.now applied.now.reference }
 {
-    let Some(reference) = applied.reference else {
-        return applied.sources.difference(lost.with(replica));
-    };
-    reference
-        .component
-        .set
-        .intersection(head.set)
-        .difference(lost.with(replica))
+    let senders = applied.reference.map_or(applied.sources, |reference| {
+        reference.component.set.intersection(head.set)
+    });
+    senders.difference(lost.with(replica.number()))
 }
 
 // Out of how many States are asked.
-fn asked(applied: Applied) -> u32
-    ensures value { result ≡ asked applied applied.reference }
+fn asked(applied: &Applied) -> u32
+    ensures value { result ≡ asked applied.now applied.now.reference }
     ensures bound { result < 17 }
 {
-    let Some(reference) = applied.reference else {
-        return applied.sources.len();
-    };
-    reference.component.set.len()
+    applied
+        .reference
+        .map_or(applied.sources, |reference| reference.component.set)
+        .len()
 }
 
-fn is_need_met(need: Need, applied: Applied) -> bool
-    ensures { result ≡ need_met need applied applied.reference }
+fn is_need_met(need: Need, applied: &Applied) -> bool
+    ensures { result ≡ need_met need applied.now applied.now.reference }
 {
-    let Some(reference) = applied.reference else {
-        return false;
-    };
-    !(applied.states.len() < need.of(reference.component.set.len()))
-}
-
-fn judge_applying(
-    need: Need,
-    replica: u8,
-    lost: ReplicaSet,
-    head: Head,
-    applied: Applied,
-) -> Verdict
-    ensures { result ≡ applying_verdict need replica lost.0 head applied }
-{
-    if is_need_met(need, applied) {
-        return Verdict::Records;
-    }
-    if applied.sources.is_empty() {
-        return Verdict::Closes;
-    }
-    let possible = applied
-        .states
-        .union(possible_senders(replica, lost, head, applied));
-    if possible.len() < need.of(asked(applied)) {
-        return Verdict::Closes;
-    }
-    Verdict::Stays
-}
-
-fn judge_entering<R: QuorumRule>(
-    rule: &R,
-    lost: ReplicaSet,
-    head: Head,
-    entered: Entered,
-) -> Verdict
-    ensures { result ≡ entering_verdict (R.carries rule.now) lost.0 head entered }
-{
-    let Reference {
-        component,
-        survivors,
-    } = entered.reference;
-    let missing = unheard(head, survivors, entered.members, entered.newcomers);
-    if missing.is_empty() {
-        let heard = entered.members.intersection(survivors);
-        return judge_carrying(rule, heard, survivors, lost, component.set);
-    }
-    if missing.intersection(lost).is_empty() {
-        return Verdict::Stays;
-    }
-    Verdict::Forgets
-}
-
-pub(crate) fn is_reported(reports: &[Option<Report>; 16], replica: u8) -> bool
-    requires { replica < 16 }
-    ensures { result ≡ is_some (reported reports.now replica) }
-{
-    reports[replica as usize].is_some()
+    applied.reference.is_some_and(|reference| {
+        applied.states.len() >= need.of(reference.component.set.len())
+    })
 }
 
 // The replicas whose reports were heard.
@@ -177,67 +51,142 @@ fn heard_of(reports: &[Option<Report>; 16]) -> ReplicaSet
     ensures { result.0 ≡ heard_of reports.now }
 {
     let mut heard = ReplicaSet::EMPTY;
-    for replica in 0..16u8 {
-        if is_reported(reports, replica) {
-            heard = heard.with(replica);
+    for (replica, report) in reports.iter().enumerate() {
+        if report.is_some() {
+            heard = heard.with(replica as u8);
         }
     }
     heard
 }
 
-// The round's decision, taken apart.
-fn judge_reports<R: QuorumRule>(rule: &R, head: Head, reports: &[Option<Report>; 16]) -> Verdict
-    ensures { result ≡ Verdict.Ends (round_end (R.carries rule.now) head reports.now).0 (round_end (R.carries rule.now) head reports.now).1 }
-{
-    let (outcome, settled) = decide(rule, head, reports);
-    Verdict::Ends(outcome, settled)
-}
-
-fn judge_round<R: QuorumRule>(
-    rule: &R,
-    lost: ReplicaSet,
-    head: Head,
-    reports: &[Option<Report>; 16],
-) -> Verdict
-    ensures { result ≡ round_verdict (R.carries rule.now) lost.0 head reports.now }
-{
-    if !lost.is_empty() {
-        return Verdict::Ends(Outcome::LostMember, None);
-    }
-    if !head.set.is_subset(heard_of(reports)) {
-        return Verdict::Stays;
-    }
-    judge_reports(rule, head, reports)
-}
-
-fn judge_stage<R: QuorumRule>(rule: &R, need: Need, replica: u8, page: &Page, row: &Row) -> Verdict
-    ensures { result ≡ stage_verdict (R.carries rule.now) need replica page.now row.now.survivors.0 row.now.lost.0 row.now.stage }
-{
-    let survivors = row.survivors;
-    let lost = row.lost;
-    match (&row.stage, page.component) {
-        (Stage::Gathering(head, gathered), Some(component)) => {
-            judge_gathering(need, survivors, lost, *head, *gathered, component)
+impl<R: QuorumRule> Terms<'_, R> {
+    fn judge_gathering(
+        &self,
+        row: &Row,
+        head: Head,
+        gathered: &Gathered,
+        component: View,
+    ) -> Verdict
+        ensures { result ≡ gathering_verdict self.now.need row.now.survivors.0 row.now.lost.0 head gathered.now component }
+    {
+        let needed = self.need.of(component.set.len());
+        let possible = gathered.states.union(row.survivors.difference(row.lost));
+        if possible.len() < needed {
+            return Verdict::Reconfigures;
         }
-        (Stage::Confirming(_, confirmed), Some(component)) => {
-            judge_confirming(rule, survivors, lost, *confirmed, component)
+        if gathered.states.len() < needed {
+            return Verdict::Stays;
         }
-        (Stage::Applying(head, applied), _) => judge_applying(need, replica, lost, *head, *applied),
-        (Stage::Entering(head, entered), _) => judge_entering(rule, lost, *head, *entered),
-        (Stage::Round(head, reports), _) => judge_round(rule, lost, *head, reports),
-        _ => Verdict::Stays,
+        let missing = unheard(head, row.survivors, gathered.recorders);
+        if missing.is_empty() {
+            return Verdict::Records;
+        }
+        if missing.intersection(row.lost).is_empty() {
+            return Verdict::Stays;
+        }
+        Verdict::Closes
     }
-}
 
-// What the open head of a page and row comes to.
-pub(crate) fn judge<R: QuorumRule>(
-    rule: &R,
-    need: Need,
-    replica: u8,
-    page: &Page,
-    row: &Row,
-) -> Verdict
-    ensures { result ≡ verdict_of (R.carries rule.now) need replica page.now row.now }
-{
-    judge_stage(rule, need, replica, page, row)
+    // Of those heard and those who may still be, who carries the set?
+    fn judge_carrying(
+        &self,
+        heard: ReplicaSet,
+        survivors: ReplicaSet,
+        lost: ReplicaSet,
+        set: ReplicaSet,
+    ) -> Verdict
+        ensures { result ≡ carrying_verdict (R.carries self.now.rule.now) heard.0 survivors.0 lost.0 set.0 }
+    {
+        if self.rule.carries(heard, set) {
+            return Verdict::Installs;
+        }
+        if self
+            .rule
+            .carries(heard.union(survivors.difference(lost)), set)
+        {
+            return Verdict::Stays;
+        }
+        Verdict::Reconfigures
+    }
+
+    fn judge_confirming(&self, row: &Row, confirmed: &Confirmed, component: View) -> Verdict
+        ensures { result ≡ confirming_verdict (R.carries self.now.rule.now) row.now.survivors.0 row.now.lost.0 confirmed.now component }
+    {
+        let heard = confirmed.recorders.members.intersection(row.survivors);
+        self.judge_carrying(heard, row.survivors, row.lost, component.set)
+    }
+
+    fn judge_applying(&self, lost: ReplicaSet, head: Head, applied: &Applied) -> Verdict
+        ensures { result ≡ applying_verdict self.now.need self.now.replica lost.0 head applied.now }
+    {
+        if is_need_met(self.need, applied) {
+            return Verdict::Records;
+        }
+        if applied.sources.is_empty() {
+            return Verdict::Closes;
+        }
+        let senders = possible_senders(self.replica, lost, head, applied);
+        if applied.states.union(senders).len() < self.need.of(asked(applied)) {
+            return Verdict::Closes;
+        }
+        Verdict::Stays
+    }
+
+    fn judge_entering(&self, lost: ReplicaSet, head: Head, entered: &Entered) -> Verdict
+        ensures { result ≡ entering_verdict (R.carries self.now.rule.now) lost.0 head entered.now }
+    {
+        let Reference {
+            component,
+            survivors,
+        } = entered.reference;
+        let missing = unheard(head, survivors, entered.recorders);
+        if missing.is_empty() {
+            let heard = entered.recorders.members.intersection(survivors);
+            return self.judge_carrying(heard, survivors, lost, component.set);
+        }
+        if missing.intersection(lost).is_empty() {
+            return Verdict::Stays;
+        }
+        Verdict::Forgets
+    }
+
+    // The round's decision, taken apart.
+    #[tactic(auto, unfolding(crate::specs::Verdicts::round_end))]
+    fn judge_reports(&self, head: Head, reports: &[Option<Report>; 16]) -> Verdict
+        ensures { result ≡ Verdict.Ends (round_end (R.carries self.now.rule.now) head reports.now).0 (round_end (R.carries self.now.rule.now) head reports.now).1 }
+    {
+        let (outcome, settled) = decide(self.rule, head, reports);
+        Verdict::Ends(outcome, settled)
+    }
+
+    fn judge_round(&self, lost: ReplicaSet, head: Head, reports: &[Option<Report>; 16]) -> Verdict
+        ensures { result ≡ round_verdict (R.carries self.now.rule.now) lost.0 head reports.now }
+    {
+        if !lost.is_empty() {
+            return Verdict::Ends(Outcome::LostMember, None);
+        }
+        if !head.set.is_subset(heard_of(reports)) {
+            return Verdict::Stays;
+        }
+        self.judge_reports(head, reports)
+    }
+
+    // What the open head of a page and row comes to.
+    #[tactic(auto, unfolding(crate::specs::Verdicts::verdict_of))]
+    pub(crate) fn judge(&self, page: &Page, row: &Row) -> Verdict
+        ensures { result ≡ verdict_of (R.carries self.now.rule.now) self.now.need self.now.replica page.now row.now }
+    {
+        match (&row.stage, page.component) {
+            (Stage::Gathering(head, gathered), Some(component)) => {
+                self.judge_gathering(row, *head, gathered, component)
+            }
+            (Stage::Confirming(_, confirmed), Some(component)) => {
+                self.judge_confirming(row, confirmed, component)
+            }
+            (Stage::Applying(head, applied), _) => self.judge_applying(row.lost, *head, applied),
+            (Stage::Entering(head, entered), _) => self.judge_entering(row.lost, *head, entered),
+            (Stage::Round(head, reports), _) => self.judge_round(row.lost, *head, reports),
+            _ => Verdict::Stays,
+        }
+    }
 }

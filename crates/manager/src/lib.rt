@@ -10,6 +10,7 @@ mod judge;
 mod need;
 mod refuse;
 mod take_up;
+mod terms;
 mod verdict;
 
 pub use answer::Answer;

@@ -1,5 +1,5 @@
 // How many States a replica wants before it records.
-ghost use Rattle.std.specs.Prelude.{◌≡◌, ◌<◌, ◌≤◌};
+ghost use Rattle.std.specs.Prelude.{◌≡◌};
 ghost use Rattle.manager.specs.Verdicts.{need_of};
 
 #[derive(Clone, Copy)]

@@ -1,31 +1,27 @@
 // Why a call is turned down: the earliest that applies is given.
-ghost use Rattle.std.specs.Prelude.{◌≡◌, ◌<◌, not, ◌&&◌, ◌||◌, OnOk};
-ghost use Rattle.manager.specs.Calls.{refusal, all_keep, offer_refusal, call_refusal, head_of, is_open, at_highest, announcement_refusal, view_refusal, message_refusal, head_refusal, delivery_refusal, party_refusal, lost_refusal, loss_refusal, start_refusal};
+ghost use Rattle.std.specs.Prelude.{◌≡◌, ◌<◌, OnOk};
+ghost use Rattle.manager.specs.Calls.{unless_refused, offer_refusal, call_refusal, head_of, at_highest, announcement_refusal, view_refusal, message_refusal, head_refusal, delivery_refusal, party_refusal, lost_refusal, loss_refusal, start_refusal};
 ghost use Rattle.quorum.specs.Faults.{allowed};
 
-use quorum::{Fault, Layer, Reason, refuse_if};
+use quorum::{Fault, Layer, Reason, Replica, refuse_if};
 use rows::{Message, Row, Stage};
-use stores::{Head, Mode, Page, View};
+use stores::{Head, Mode, Number, Page, View};
 
 // Page and row keep the rules, and the replica is one of the sixteen.
-pub(crate) fn check_offer(replica: u8, page: &Page, row: &Row) -> Result<(), Fault>
-    ensures test { result ≡ allowed (offer_refusal replica page.now row.now) }
-    ensures within { OnOk result (replica < 16) }
+pub(crate) fn check_offer(replica: u8, page: &Page, row: &Row) -> Result<Replica, Fault>
+    ensures { result ≡ unless_refused (offer_refusal replica page.now row.now) replica }
 {
     let kept = page.keeps_rules(replica) && row.keeps_rules(replica, page);
     refuse_if(!kept, Reason::AgainstRules.at(replica, Layer::Manager))?;
-    refuse_if(
-        replica >= 16,
-        Reason::NoSuchReplica.at(replica, Layer::Manager),
-    )
+    Replica::new(replica).ok_or(Reason::NoSuchReplica.at(replica, Layer::Manager))
 }
 
-pub(crate) fn check_call(replica: u8, page: &Page, row: &Row) -> Result<(), Fault>
-    ensures test { result ≡ allowed (call_refusal replica page.now row.now) }
-    ensures within { OnOk result (replica < 16) }
+pub(crate) fn check_call(replica: u8, page: &Page, row: &Row) -> Result<Replica, Fault>
+    ensures { result ≡ unless_refused (call_refusal replica page.now row.now) replica }
 {
-    check_offer(replica, page, row)?;
-    refuse_if(!row.up, Reason::WrongPower.at(replica, Layer::Manager))
+    let found = check_offer(replica, page, row)?;
+    refuse_if(!row.up, Reason::WrongPower.at(replica, Layer::Manager))?;
+    Ok(found)
 }
 
 // The head of a row; idle has none.
@@ -34,27 +30,18 @@ pub(crate) fn head_of(stage: &Stage) -> Option<Head>
 {
     match stage {
         Stage::Idle => None,
-        Stage::Gathering(head, _) => Some(*head),
-        Stage::Confirming(head, _) => Some(*head),
-        Stage::Applying(head, _) => Some(*head),
-        Stage::Entering(head, _) => Some(*head),
-        Stage::Round(head, _) => Some(*head),
+        Stage::Gathering(head, _)
+        | Stage::Confirming(head, _)
+        | Stage::Applying(head, _)
+        | Stage::Entering(head, _)
+        | Stage::Round(head, _) => Some(*head),
     }
-}
-
-fn is_open(stage: &Stage) -> bool
-    ensures { result ≡ is_open (head_of stage.now) }
-{
-    head_of(stage).is_some()
 }
 
 fn is_at_highest(component: Option<View>) -> bool
     ensures { result ≡ at_highest component }
 {
-    let Some(component) = component else {
-        return false;
-    };
-    component.number.0 >= 1_000_000_000
+    component.is_some_and(|component| component.number >= Number::HIGHEST)
 }
 
 fn check_announcement(replica: u8, page: &Page, row: &Row, head: Head) -> Result<(), Fault>
@@ -65,26 +52,27 @@ fn check_announcement(replica: u8, page: &Page, row: &Row, head: Head) -> Result
         Reason::ViewWithoutReplica.at(replica, Layer::Manager),
     )?;
     refuse_if(
-        is_open(&row.stage),
+        head_of(&row.stage).is_some(),
         Reason::HeadOpen.at(replica, Layer::Manager),
     )?;
     refuse_if(
-        head.stamp.0 <= page.top.0,
+        head.stamp <= page.top,
         Reason::StampNotAbove.at(replica, Layer::Manager),
     )?;
-    let exhausted = matches!(page.mode, Mode::Normal) && is_at_highest(page.component);
+    let exhausted = page.mode == Mode::Normal && is_at_highest(page.component);
     refuse_if(
         exhausted,
         Reason::NumbersExhausted.at(replica, Layer::Manager),
     )
 }
 
-pub(crate) fn check_view(replica: u8, page: &Page, row: &Row, head: Head) -> Result<(), Fault>
-    ensures test { result ≡ allowed (view_refusal replica page.now row.now head) }
-    ensures within { OnOk result (replica < 16) }
+#[tactic(auto, unfolding(crate::specs::Calls::view_refusal))]
+pub(crate) fn check_view(replica: u8, page: &Page, row: &Row, head: Head) -> Result<Replica, Fault>
+    ensures { result ≡ unless_refused (view_refusal replica page.now row.now head) replica }
 {
-    check_call(replica, page, row)?;
-    check_announcement(replica, page, row, head)
+    let found = check_call(replica, page, row)?;
+    check_announcement(replica, page, row, head)?;
+    Ok(found)
 }
 
 // A message against the rules; it comes before everything else.
@@ -112,19 +100,21 @@ fn check_head(replica: u8, row: &Row, message: &Message) -> Result<(), Fault>
     refuse_if(wrong, Reason::WrongParty.at(replica, Layer::Manager))
 }
 
+// Gives the replica and the sender.
+#[tactic(auto, unfolding(crate::specs::Calls::delivery_refusal))]
 pub(crate) fn check_delivery(
     replica: u8,
     page: &Page,
     row: &Row,
     message: &Message,
-) -> Result<(), Fault>
-    ensures test { result ≡ allowed (delivery_refusal replica page.now row.now message.now) }
-    ensures within { OnOk result (replica < 16) }
-    ensures sender { OnOk result (message.now.sender < 16) }
+) -> Result<(Replica, Replica), Fault>
+    ensures { result ≡ unless_refused (delivery_refusal replica page.now row.now message.now) (replica, message.now.sender) }
 {
     check_message(replica, message)?;
-    check_call(replica, page, row)?;
-    check_head(replica, row, message)
+    let found = check_call(replica, page, row)?;
+    check_head(replica, row, message)?;
+    // A message that keeps the rules has one of the sixteen as its sender.
+    Ok((found, Replica::new(message.sender).unwrap()))
 }
 
 fn check_party(replica: u8, row: &Row, lost: u8) -> Result<(), Fault>
@@ -145,13 +135,16 @@ fn check_lost(replica: u8, row: &Row, lost: u8) -> Result<(), Fault>
     check_party(replica, row, lost)
 }
 
-pub(crate) fn check_loss(replica: u8, page: &Page, row: &Row, lost: u8) -> Result<(), Fault>
-    ensures { result ≡ allowed (loss_refusal replica page.now row.now lost) }
+#[tactic(auto, unfolding(crate::specs::Calls::loss_refusal))]
+pub(crate) fn check_loss(replica: u8, page: &Page, row: &Row, lost: u8) -> Result<Replica, Fault>
+    ensures { result ≡ unless_refused (loss_refusal replica page.now row.now lost) replica }
 {
-    check_offer(replica, page, row)?;
-    check_lost(replica, row, lost)
+    let found = check_offer(replica, page, row)?;
+    check_lost(replica, row, lost)?;
+    Ok(found)
 }
 
+#[tactic(auto, unfolding(crate::specs::Calls::start_refusal))]
 pub(crate) fn check_start(replica: u8, page: &Page, row: &Row) -> Result<(), Fault>
     ensures { result ≡ allowed (start_refusal replica page.now row.now) }
 {

@@ -20,6 +20,7 @@ use Rattle.rows.specs.declared.row.Row.{Row}
 use Rattle.rows.specs.declared.row.Stage.{Stage}
 use Rattle.rows.specs.declared.row.Stage.TheVariants.{Idle, Gathering, Confirming, Applying, Entering, Round}
 use Rattle.rows.specs.Messages.{report_keeps}
+use Rattle.rows.specs.Recorders.{recorders_within}
 
 abbrev pub is_waiting : Mode → Bool
 is_waiting Waiting = true
@@ -83,12 +84,12 @@ report_breaks h q (Some m) = not (has h.set.0 q && report_keeps q h m)
 abbrev pub gathering_keeps : ℕ → Page → Head → Gathered → Bool
 gathering_keeps r p h g =
     is_normal p.mode && head_keeps r p h && has_next p.component && not_later h p.recorded
-    && within g.states.0 h.set.0 && within g.members.0 h.set.0 && within g.newcomers.0 h.set.0
+    && within g.states.0 h.set.0 && recorders_within g.recorders h.set.0
 
 -- confirming goes with mode normal, the recorded view under the head
 abbrev pub confirming_keeps : ℕ → Page → Head → Confirmed → Bool
 confirming_keeps r p h g =
-    is_normal p.mode && head_keeps r p h && under_head h p.recorded && within g.members.0 h.set.0 && within g.newcomers.0 h.set.0
+    is_normal p.mode && head_keeps r p h && under_head h p.recorded && recorders_within g.recorders h.set.0
 
 -- applying goes with mode waiting
 abbrev pub applying_keeps : ℕ → Page → Head → Applied → Bool
@@ -100,7 +101,7 @@ applying_keeps r p h a =
 abbrev pub entering_keeps : ℕ → Page → Head → Entered → Bool
 entering_keeps r p h e =
     is_joining p.mode && head_keeps r p h && under_head h p.recorded && reference_keeps (Some e.reference)
-    && within e.members.0 h.set.0 && within e.newcomers.0 h.set.0
+    && recorders_within e.recorders h.set.0
 
 -- a round goes with mode reconfiguration, its reports by members of the head
 abbrev pub round_keeps : ℕ → Page → Head → List (Option Report) → Bool

@@ -7,4 +7,4 @@ mod rules;
 mod show;
 
 pub use message::{Body, Message, Part, Posts};
-pub use row::{Applied, Confirmed, Entered, Gathered, Reference, Row, Stage};
+pub use row::{Applied, Confirmed, Entered, Gathered, Recorders, Reference, Row, Stage};

@@ -1,5 +1,5 @@
 // The rules that messages and rows keep.
-ghost use Rattle.std.specs.Prelude.{◌≡◌, ℕ, ◌<◌, true, not};
+ghost use Rattle.std.specs.Prelude.{◌≡◌, ◌<◌, true};
 ghost use Rattle.rounds.specs.Reports.{reported};
 ghost use Rattle.rows.specs.Messages.{kind_number, reporting_mode, reported_page, report_keeps, body_keeps, message_keeps};
 ghost use Rattle.rows.specs.Rows.{head_keeps, survivors_keep, has_next, reference_keeps, under_head, not_later, report_breaks, gathering_keeps, confirming_keeps, applying_keeps, entering_keeps, round_keeps, idle_keeps, stage_keeps, row_keeps};
@@ -7,9 +7,9 @@ ghost use Rattle.quorum.specs.Below.{any};
 
 use super::message::{Body, Message};
 use super::row::{Applied, Confirmed, Entered, Gathered, Reference, Row, Stage};
-use quorum::ReplicaSet;
+use quorum::{Replica, ReplicaSet};
 use rounds::Report;
-use stores::{Head, Mode, Page, Recorded, View};
+use stores::{Head, Mode, Number, Page, Recorded, View};
 
 impl Body {
     // The kind's number.
@@ -60,13 +60,13 @@ fn body_keeps_rules(sender: u8, head: Head, body: &Body) -> bool
 {
     match body {
         Body::State(component, survivors) => {
-            component.number.0 < 1_000_000_000
+            component.number < Number::HIGHEST
                 && survivors.is_subset(component.set)
                 && survivors.is_subset(head.set)
         }
         Body::Abort => true,
         Body::Join => true,
-        Body::Recorded(number, _) => number.0 >= 1 && number.0 <= 1_000_000_000,
+        Body::Recorded(number, _) => Number(1) <= *number && *number <= Number::HIGHEST,
         Body::Report(report) => report_keeps_rules(sender, head, report),
     }
 }
@@ -83,80 +83,67 @@ impl Message {
 fn head_keeps_rules(replica: u8, page: &Page, head: Head) -> bool
     ensures { result ≡ head_keeps replica page.now head }
 {
-    head.set.contains(replica) && head.stamp.0 <= page.top.0
+    head.set.contains(replica) && head.stamp <= page.top
 }
 
 fn survivors_keep_rules(survivors: ReplicaSet, component: Option<View>) -> bool
     ensures { result ≡ survivors_keep survivors component }
 {
-    let Some(component) = component else {
-        return survivors.is_empty();
-    };
-    survivors.is_subset(component.set)
+    component.map_or(survivors.is_empty(), |component| {
+        survivors.is_subset(component.set)
+    })
 }
 
 fn has_next(component: Option<View>) -> bool
     ensures { result ≡ has_next component }
 {
-    let Some(component) = component else {
-        return false;
-    };
-    component.number.0 < 1_000_000_000
+    component.is_some_and(|component| component.number < Number::HIGHEST)
 }
 
 fn reference_keeps_rules(reference: Option<Reference>) -> bool
     ensures { result ≡ reference_keeps reference }
 {
-    let Some(reference) = reference else {
-        return true;
-    };
-    reference.component.number.0 < 1_000_000_000
+    reference.is_none_or(|reference| reference.component.number < Number::HIGHEST)
 }
 
 fn is_under(head: Head, recorded: Option<Recorded>) -> bool
     ensures { result ≡ under_head head recorded }
 {
-    let Some(recorded) = recorded else {
-        return false;
-    };
-    recorded.stamp.0 == head.stamp.0 && recorded.view.set.0 == head.set.0
+    recorded.is_some_and(|recorded| {
+        recorded.stamp == head.stamp && recorded.view.set == head.set
+    })
 }
 
 fn is_not_later(head: Head, recorded: Option<Recorded>) -> bool
     ensures { result ≡ not_later head recorded }
 {
-    let Some(recorded) = recorded else {
-        return true;
-    };
-    recorded.stamp.0 <= head.stamp.0
+    recorded.is_none_or(|recorded| recorded.stamp <= head.stamp)
 }
 
 fn gathering_keeps_rules(replica: u8, page: &Page, head: Head, gathered: &Gathered) -> bool
     ensures { result ≡ gathering_keeps replica page.now head gathered.now }
 {
-    matches!(page.mode, Mode::Normal)
+    page.mode == Mode::Normal
         && head_keeps_rules(replica, page, head)
         && has_next(page.component)
         && is_not_later(head, page.recorded)
         && gathered.states.is_subset(head.set)
-        && gathered.members.is_subset(head.set)
-        && gathered.newcomers.is_subset(head.set)
+        && gathered.recorders.is_within(head.set)
 }
 
 fn confirming_keeps_rules(replica: u8, page: &Page, head: Head, confirmed: &Confirmed) -> bool
     ensures { result ≡ confirming_keeps replica page.now head confirmed.now }
 {
-    matches!(page.mode, Mode::Normal)
+    page.mode == Mode::Normal
         && head_keeps_rules(replica, page, head)
         && is_under(head, page.recorded)
-        && confirmed.members.is_subset(head.set)
-        && confirmed.newcomers.is_subset(head.set)
+        && confirmed.recorders.is_within(head.set)
 }
 
 fn applying_keeps_rules(replica: u8, page: &Page, head: Head, applied: &Applied) -> bool
     ensures { result ≡ applying_keeps replica page.now head applied.now }
 {
-    matches!(page.mode, Mode::Waiting)
+    page.mode == Mode::Waiting
         && head_keeps_rules(replica, page, head)
         && reference_keeps_rules(applied.reference)
         && applied.sources.is_subset(head.set)
@@ -167,46 +154,33 @@ fn applying_keeps_rules(replica: u8, page: &Page, head: Head, applied: &Applied)
 fn entering_keeps_rules(replica: u8, page: &Page, head: Head, entered: &Entered) -> bool
     ensures { result ≡ entering_keeps replica page.now head entered.now }
 {
-    matches!(page.mode, Mode::Joining)
+    page.mode == Mode::Joining
         && head_keeps_rules(replica, page, head)
         && is_under(head, page.recorded)
         && reference_keeps_rules(Some(entered.reference))
-        && entered.members.is_subset(head.set)
-        && entered.newcomers.is_subset(head.set)
-}
-
-fn reported(reports: &[Option<Report>; 16], replica: u8) -> Option<Report>
-    requires { replica < 16 }
-    ensures { result ≡ reported reports.now replica }
-{
-    reports[replica as usize]
+        && entered.recorders.is_within(head.set)
 }
 
 // A report against the rules, or of a replica outside the head.
-fn breaks_rules(head: Head, sender: u8, report: Option<Report>) -> bool
+fn breaks_rules(head: Head, sender: Replica, report: Option<Report>) -> bool
     ensures { result ≡ report_breaks head sender report }
 {
-    let Some(report) = report else {
-        return false;
-    };
-    !(head.set.contains(sender) && report_keeps_rules(sender, head, &report))
+    let sender = sender.number();
+    report.is_some_and(|report| {
+        !(head.set.contains(sender) && report_keeps_rules(sender, head, &report))
+    })
 }
 
 fn any_breaks_rules(head: Head, reports: &[Option<Report>; 16]) -> bool
     ensures { result ≡ any (λ q. report_breaks head q (reported reports.now q)) 16 }
 {
-    for sender in 0..16u8 {
-        if breaks_rules(head, sender, reported(reports, sender)) {
-            return true;
-        }
-    }
-    false
+    Replica::all().iter().any(|sender| breaks_rules(head, *sender, reports[sender.index()]))
 }
 
 fn round_keeps_rules(replica: u8, page: &Page, head: Head, reports: &[Option<Report>; 16]) -> bool
     ensures { result ≡ round_keeps replica page.now head reports.now }
 {
-    matches!(page.mode, Mode::Reconfiguration)
+    page.mode == Mode::Reconfiguration
         && head_keeps_rules(replica, page, head)
         && !any_breaks_rules(head, reports)
 }
@@ -214,7 +188,7 @@ fn round_keeps_rules(replica: u8, page: &Page, head: Head, reports: &[Option<Rep
 fn idle_keeps_rules(up: bool, lost: ReplicaSet, mode: Mode) -> bool
     ensures { result ≡ idle_keeps up lost mode }
 {
-    lost.is_empty() && !(up && matches!(mode, Mode::Joining))
+    lost.is_empty() && !(up && mode == Mode::Joining)
 }
 
 fn stage_keeps_rules(replica: u8, page: &Page, row: &Row) -> bool
