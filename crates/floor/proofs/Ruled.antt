@@ -13,7 +13,7 @@ use Rattle.manager.specs.Effects.{Effect, effect}
 use Rattle.manager.specs.declared.answer.Answer.{Answer}
 use Rattle.manager.specs.declared.need.Need.{Need}
 use Rattle.laws.specs.Laws.{Keeps}
-use Rattle.laws.proofs.Calls.{viewed_keeps, delivered_keeps, lost_keeps, started_keeps, stopped_keeps}
+use Rattle.laws.proofs.Calls.{viewed_keeps, delivered_keeps, lost_keeps, started_keeps, stopped_keeps, stopped_so}
 use Rattle.rows.specs.declared.message.Message.{Message}
 use Rattle.rows.specs.declared.message.Posts.TheVariants.{Nothing}
 use Rattle.rows.specs.declared.row.Row.{Row}
@@ -220,22 +220,14 @@ module _ (f : ℕ → ℕ → Bool) (w u : World) (k : Work) (e : Effect) (a : A
   )
 
 -- ---- a stop
-refused_or_not : (o : Option Fault) (a e : Effect) → unless_refused o a ≡ Ok e → a ≡ e
-refused_or_not None a e h = cc
-refused_or_not (Some x) a e h = cc
-
 -- an accepted stop leaves the row down and empty
-stop_is : (r : ℕ) (p : Page) (w : Row) (e : Effect) → stopped_at r p w ≡ Ok e → effect p (empty_row false) Nothing ≡ e
-unfolding stopped_at
-stop_is r p w e h = refused_or_not (call_refusal r p w) (effect p (empty_row false) Nothing) e h
-
 pub stop_done : (f : ℕ → ℕ → Bool) (w : World) (n r : ℕ) (p : Page) (a : Answer) (u : World) → Ok r ≡ given (up_test w.rows n) n → p ≡ page_of f w r →
     Ok a ≡ answer_of (stopped_at r p (row_at w.rows r)) → u ≡ record w { rows = set w.rows r (row_left (row_at w.rows r) (stopped_at r p (row_at w.rows r))) } →
     (e : Effect) × (stopped f w n ≡ Ok e) × (a ≡ quiet) × Halted w u n
 stop_done f w n r p a u found page_is answer left =
     let at = given_ok (up_test w.rows n) n r found in
     let yes = managed_accepted (stopped_at r p (row_at w.rows r)) a answer in
-    let is = stop_is r p (row_at w.rows r) yes.0 yes.1 in (
+    let is = (stopped_so r p (row_at w.rows r) yes.0 yes.1).1 in (
       yes.0,
       at.0 _ ∙ cc (at.1, page_is, yes.1),
       yes.2 ∙ sym (ap (λ e. e.answer) is),
