@@ -1,5 +1,5 @@
 -- From the floor's and the manager's answers to what a call does. Assumes nothing.
-use Rattle.std.proofs.Common.{◌≡◌, ℕ, ◌<◌, Bool, false, ◌&&◌, eqb, leb, length, IfOk, Some, None, Ok, Err, Option, Result, sym, refl, ap, ap₂, ◌∙◌, ⊎_elim, OnOk, OnErr, arith}
+use Rattle.std.proofs.Common.{◌≡◌, ℕ, ◌<◌, Bool, false, ◌&&◌, ◌==◌, nat_le, length, IfOk, Some, None, Ok, Err, Option, Result, sym, refl, ap, ap₂, ◌∙◌, ⊎_elim, OnOk, OnErr, arith, set}
 use Rattle.std.proofs.lemmas.Bool.{eq-eqb, ne_eqb}
 use Rattle.std.proofs.lemmas.List.{set-set, set-get_or}
 use Rattle.std.specs.Option.{option_or}
@@ -8,32 +8,30 @@ use Rattle.quorum.specs.declared.fault.Failure.TheVariants.{Refused, NoMemory}
 use Rattle.quorum.specs.declared.fault.Fault.{Fault}
 use Rattle.quorum.specs.declared.fault.Reason.TheVariants.{PostFull}
 use Rattle.quorum.specs.Faults.{refused_if}
-use Rattle.manager.specs.Calls.{answer_of, stopped_at, call_refusal, unless_refused, empty_row}
+use Rattle.manager.specs.Calls.{answer_of, page_left, row_left, stopped_at, call_refusal, unless_refused, empty_row}
 use Rattle.manager.specs.Effects.{Effect, effect}
 use Rattle.manager.specs.declared.answer.Answer.{Answer}
 use Rattle.manager.specs.declared.need.Need.{Need}
 use Rattle.laws.specs.Laws.{Keeps}
-use Rattle.laws.proofs.Calls.{viewed_keeps, delivered_keeps, lost_keeps, started_keeps, stopped_keeps}
+use Rattle.laws.proofs.Calls.{viewed_keeps, delivered_keeps, lost_keeps, started_keeps, stopped_keeps, stopped_so}
 use Rattle.rows.specs.declared.message.Message.{Message}
 use Rattle.rows.specs.declared.message.Posts.TheVariants.{Nothing}
 use Rattle.rows.specs.declared.row.Row.{Row}
+use Rattle.runs.specs.Founding.{row_at}
+use Rattle.runs.specs.Steps.{Halted, quiet, stopped}
 use Rattle.runs.specs.World.{World, replica_of, floor_refusal, unless, message_at, up_test, down_test, loss_test, delivery_test, page_of, row_of, delivered_or_not, asked, full, placed, ruled, Posted, unit_of, Same, Broken, Did}
 use Rattle.runs.specs.declared.work.Work.{Work}
 use Rattle.runs.specs.declared.work.Work.TheVariants as works
 use Rattle.stores.specs.Kept.{no_place}
 use Rattle.stores.specs.declared.page.Page.{Page}
-use Rattle.floor.specs.Parts.{crowded, Ready, Stored, PutBack}
+use Rattle.floor.specs.Parts.{crowded, Ready, Stored, PutBack, Tested}
 use Rattle.floor.specs.Tasks.{managed, lent, given, delivery_task, tasked, wants_room}
 use Rattle.floor.specs.declared.accepted.Accepted.{Accepted}
 use Rattle.floor.specs.declared.task.Task.{Task}
 use Rattle.floor.specs.declared.task.Task.TheVariants as tasks
 
 -- ---- the floor's part
-unless_none : (o : Option Fault) (rest : Result Effect Fault) → o ≡ None → unless o rest ≡ rest
-unless_none None rest e = refl
-unless_none (Some x) rest e = cc
-
-pub given_ok : {A : Type 0} (o : Option Fault) (a b : A) → Ok b ≡ given o a → ((rest : Result Effect Fault) → unless o rest ≡ rest) × (b ≡ a)
+given_ok : {A : Type 0} (o : Option Fault) (a b : A) → Ok b ≡ given o a → ((rest : Result Effect Fault) → unless o rest ≡ rest) × (b ≡ a)
 given_ok None a b e = (λ rest. refl, cc)
 given_ok (Some y) a b e = (λ rest. cc, cc)
 
@@ -73,13 +71,8 @@ module _ (f : ℕ → ℕ → Bool) (w : World) where
   handed_at (works.Start r) p e =
       let a = given_ok (down_test w.rows r) (r, tasks.Start) p e in (ap (λ q. q.0) a.1, a.0 _ ∙ ap managed_at (sym a.1))
 
-  -- handed to the manager, at the replica r with its page p
-  pub handed : (k : Work) (r : ℕ) (t : Task) (p : Page) → Ok (r, t) ≡ tasked w.rows w.post k → p ≡ page_of f w r →
-      (r ≡ replica_of k) × (asked f w k ≡ lent f w.need w.rows r p t)
-  handed k r t p e page = let a = handed_at k (r, t) e in (a.0, a.1 ∙ ap (λ q. lent f w.need w.rows r q t) (sym page))
-
 -- ---- the manager's part
-pub managed_refused : (v : Result Effect Fault) (x : Fault) → Err x ≡ answer_of v → v ≡ Err x
+managed_refused : (v : Result Effect Fault) (x : Fault) → Err x ≡ answer_of v → v ≡ Err x
 managed_refused (Ok e) x h = cc
 managed_refused (Err y) x h = cc
 
@@ -95,6 +88,53 @@ managed_keeps f need r p w (tasks.Loss q) e a = lost_keeps f need r p w q e a
 managed_keeps f need r p w tasks.Start e a = started_keeps r p w e a
 managed_keeps f need r p w tasks.Stop e a = stopped_keeps r p w e a
 
+-- ---- the manager's work, at the replica r with its page p
+module _ (f : ℕ → ℕ → Bool) (w : World) (k : Work) (r : ℕ) (t : Task) (p : Page) (task_is : Ok (r, t) ≡ tasked w.rows w.post k) (page_is : p ≡ page_of f w r) where
+  abbrev what : Result Effect Fault
+  what = lent f w.need w.rows r p t
+
+  -- the world with the row that the manager leaves
+  abbrev moved : World
+  moved = record w { rows = set w.rows r (row_left (row_at w.rows r) what) }
+
+  -- the floor hands the task to the manager
+  handed : (r ≡ replica_of k) × (asked f w k ≡ what)
+  handed = let a = handed_at f w k (r, t) task_is in (a.0, a.1 ∙ ap (λ q. lent f w.need w.rows r q t) (sym page_is))
+
+  pub asked_not : (x : Fault) (u : World) → Err x ≡ answer_of what → u ≡ moved → (asked f w k ≡ Err x) × Same w u
+  asked_not x u answer left =
+      let no = managed_refused what x answer in (
+        handed.1 ∙ no,
+        record {
+          pages_are = ap (λ v. v.pages) left;
+          rows_are = ap (λ v. v.rows) left ∙ ap (λ v. set w.rows r (row_left (row_at w.rows r) v)) no ∙ set-get_or w.rows r (empty_row false);
+          post_is = ap (λ v. v.post) left;
+          places_are = ap (λ v. v.places) left;
+          need_is = ap (λ v. v.need) left;
+        },
+      )
+
+  pub asked_done : (a : Accepted) (u : World) → Ok a.answer ≡ answer_of what → a.kept.replica ≡ r → a.kept.page ≡ page_left p what →
+      a.before ≡ row_at w.rows r → a.limited ≡ wants_room k → u ≡ moved → (e : Effect) × (asked f w k ≡ Ok e) × Ready f w k e a u
+  asked_done a u answer at page before limited left =
+      let yes = managed_accepted what a.answer answer in
+      let e = yes.0 in (
+        e,
+        handed.1 ∙ yes.1,
+        record {
+          replica_is = at ∙ handed.0;
+          page_is = page ∙ ap (page_left p) yes.1;
+          before_is = before ∙ ap (row_at w.rows) handed.0;
+          limited_is = limited;
+          answer_is = yes.2;
+          pages_are = ap (λ v. v.pages) left;
+          rows_are = ap (λ v. v.rows) left ∙ ap (λ v. set w.rows r (row_left (row_at w.rows r) v)) yes.1 ∙ ap (λ q. set w.rows q e.row) handed.0;
+          post_is = ap (λ v. v.post) left;
+          places_are = ap (λ v. v.places) left;
+          need_is = ap (λ v. v.need) left;
+        },
+      )
+
 -- ---- the end of a call
 module _ (f : ℕ → ℕ → Bool) (w : World) where
   -- what the floor refuses is refused
@@ -102,7 +142,7 @@ module _ (f : ℕ → ℕ → Bool) (w : World) where
   unfolding ruled
   ruled_refused k x e = ap (placed f w k) e
 
-  full_is : (k : Work) → full f w k ≡ (wants_room k && leb 65535 (length w.post))
+  full_is : (k : Work) → full f w k ≡ (wants_room k && nat_le 65535 (length w.post))
   full_is (works.View r h) = refl
   full_is (works.Deliver r i) = refl
   full_is (works.Loss r q) = refl
@@ -110,9 +150,9 @@ module _ (f : ℕ → ℕ → Bool) (w : World) where
 
   -- the post's room, then the store's place
   last_refusal : Work → Bool → Option Fault
-  last_refusal k b = option_or (refused_if b (floor_refusal PostFull (replica_of k))) (refused_if (eqb w.places 0) (no_place (replica_of k)))
+  last_refusal k b = option_or (refused_if b (floor_refusal PostFull (replica_of k))) (refused_if (w.places == 0) (no_place (replica_of k)))
 
-  ruled_by : (k : Work) (e : Effect) → asked f w k ≡ Ok e → ruled f w k ≡ unless (last_refusal k (wants_room k && leb 65535 (length w.post))) (Ok e)
+  ruled_by : (k : Work) (e : Effect) → asked f w k ≡ Ok e → ruled f w k ≡ unless (last_refusal k (wants_room k && nat_le 65535 (length w.post))) (Ok e)
   unfolding ruled last_refusal
   ruled_by k e a = ap (placed f w k) a ∙ ap (λ b. unless (last_refusal k b) (Ok e)) (full_is k)
 
@@ -126,27 +166,26 @@ module _ (f : ℕ → ℕ → Bool) (w : World) where
   none_refuses k e b h l = rw (h, ne_eqb w.places 0 (omega arith)) refl
 
 module _ (f : ℕ → ℕ → Bool) (w u : World) (k : Work) (e : Effect) (a : Accepted) (accepted : asked f w k ≡ Ok e) (ready : Ready f w k e a u) where
-  crowd : crowded a u.post ≡ (wants_room k && leb 65535 (length w.post))
-  crowd = ap₂ (λ b ms. b && leb 65535 (length ms)) ready.limited_is ready.post_is
+  crowd : crowded a u.post ≡ (wants_room k && nat_le 65535 (length w.post))
+  crowd = ap₂ (λ b ms. b && nat_le 65535 (length ms)) ready.limited_is ready.post_is
 
-  refuses : (x : Fault) → Posted (crowded a u.post) u.places a.kept.replica (Err (Refused x)) → ruled f w k ≡ Err x
+  refuses : (x : Fault) → Tested u a (Err (Refused x)) → ruled f w k ≡ Err x
   refuses x t = ruled_by f w k e accepted ∙ full_refuses f w k e _ x (rw (crowd, ready.places_are, ready.replica_is) at t)
 
-  allows : Posted (crowded a u.post) u.places a.kept.replica (Ok tt) → ruled f w k ≡ Ok e
+  allows : Tested u a (Ok tt) → ruled f w k ≡ Ok e
   allows t = ruled_by f w k e accepted ∙ none_refuses f w k e _ (sym crowd ∙ t.0) (rw ready.places_are at t.1)
 
   -- refused after the manager's work, the row is as it was
   same : (v : World) → PutBack u a v → Same w v
   same v b = record {
     pages_are = b.pages_are ∙ ready.pages_are;
-    rows_are =
-        cc (b.rows_are, ready.rows_are, set-set w.rows (replica_of k) e.row (row_of f w (replica_of k)), set-get_or w.rows (replica_of k) (empty_row false));
+    rows_are = cc (b.rows_are, ready.rows_are, set-set w.rows (replica_of k) e.row (row_of f w (replica_of k)), set-get_or w.rows (replica_of k) (empty_row false));
     post_is = b.post_is ∙ ready.post_is;
     places_are = b.places_are ∙ ready.places_are;
     need_is = b.need_is ∙ ready.need_is;
   }
 
-  pub finished_did : (v : World) (r : Result Answer Failure) → Posted (crowded a u.post) u.places a.kept.replica (unit_of r) → IfOk r (λ b. b ≡ a.answer) →
+  pub finished_did : (v : World) (r : Result Answer Failure) → Tested u a (unit_of r) → IfOk r (λ b. b ≡ a.answer) →
       OnOk r (Stored u a v) → OnErr r (PutBack u a v) → Did f w k r v
   finished_did v (Ok b) t answer s _ = (
     e,
@@ -163,10 +202,11 @@ module _ (f : ℕ → ℕ → Bool) (w u : World) (k : Work) (e : Effect) (a : A
   finished_did v (Err (Refused x)) t _ _ b = (refuses x t, same v b)
   finished_did v (Err NoMemory) t _ _ b = same v b
 
-  pub break_refused : (v : World) (x : Fault) → Posted (crowded a u.post) u.places a.kept.replica (Err (Refused x)) → PutBack u a v → (ruled f w k ≡ Err x) × Same w v
+  pub break_refused : (v : World) (x : Fault) → Tested u a (Err (Refused x)) → PutBack u a v →
+      (ruled f w k ≡ Err x) × Same w v
   break_refused v x t b = (refuses x t, same v b)
 
-  pub break_done : (v : World) → Posted (crowded a u.post) u.places a.kept.replica (Ok tt) → Broken u v a.kept.replica a.kept.page →
+  pub break_done : (v : World) → Tested u a (Ok tt) → Broken u v a.kept.replica a.kept.page →
       (ruled f w k ≡ Ok e) × Broken w v (replica_of k) e.page
   break_done v t b = (
     allows t,
@@ -180,11 +220,22 @@ module _ (f : ℕ → ℕ → Bool) (w u : World) (k : Work) (e : Effect) (a : A
   )
 
 -- ---- a stop
-refused_or_not : (o : Option Fault) (a e : Effect) → unless_refused o a ≡ Ok e → a ≡ e
-refused_or_not None a e h = cc
-refused_or_not (Some x) a e h = cc
-
 -- an accepted stop leaves the row down and empty
-pub stop_is : (r : ℕ) (p : Page) (w : Row) (e : Effect) → stopped_at r p w ≡ Ok e → effect p (empty_row false) Nothing ≡ e
-unfolding stopped_at
-stop_is r p w e h = refused_or_not (call_refusal r p w) (effect p (empty_row false) Nothing) e h
+pub stop_done : (f : ℕ → ℕ → Bool) (w : World) (n r : ℕ) (p : Page) (a : Answer) (u : World) → Ok r ≡ given (up_test w.rows n) n → p ≡ page_of f w r →
+    Ok a ≡ answer_of (stopped_at r p (row_at w.rows r)) → u ≡ record w { rows = set w.rows r (row_left (row_at w.rows r) (stopped_at r p (row_at w.rows r))) } →
+    (e : Effect) × (stopped f w n ≡ Ok e) × (a ≡ quiet) × Halted w u n
+stop_done f w n r p a u found page_is answer left =
+    let at = given_ok (up_test w.rows n) n r found in
+    let yes = managed_accepted (stopped_at r p (row_at w.rows r)) a answer in
+    let is = (stopped_so r p (row_at w.rows r) yes.0 yes.1).1 in (
+      yes.0,
+      at.0 _ ∙ cc (at.1, page_is, yes.1),
+      yes.2 ∙ sym (ap (λ e. e.answer) is),
+      record {
+        pages_are = ap (λ v. v.pages) left;
+        rows_are = ap (λ v. v.rows) left ∙ ap (λ v. set w.rows r (row_left (row_at w.rows r) v)) yes.1 ∙ ap (λ e. set w.rows r e.row) (sym is) ∙ ap (λ q. set w.rows q (empty_row false)) at.1;
+        post_is = ap (λ v. v.post) left;
+        places_are = ap (λ v. v.places) left;
+        need_is = ap (λ v. v.need) left;
+      },
+    )

@@ -5,7 +5,7 @@ use Rattle.quorum.specs.declared.fault.Failure.TheVariants.{Refused}
 use Rattle.quorum.specs.declared.fault.Fault.{Fault}
 use Rattle.manager.specs.Effects.{Effect}
 use Rattle.rows.specs.declared.message.Message.{Message}
-use Rattle.runs.specs.World.{World, replica_of, row_of, asked, listed, Same}
+use Rattle.runs.specs.World.{World, replica_of, row_of, asked, listed, Posted, Same}
 use Rattle.runs.specs.declared.work.Work.{Work}
 use Rattle.stores.specs.Kept.{Spent}
 use Rattle.floor.specs.Tasks.{wants_room}
@@ -15,7 +15,11 @@ use Rattle.floor.specs.declared.accepted.Accepted.{Accepted}
 abbrev pub crowded : Accepted → List Message → Bool
 crowded a post = a.limited && nat_le 65535 (length post)
 
--- The call k had the effect e at the world w: what is left to be done for it, and the world u, in which its row is changed already.
+-- the post's room is asked for, and then the store's place
+abbrev pub Tested : World → Accepted → Result Unit Failure → Type 0
+Tested u a r = Posted (crowded a u.post) u.places a.kept.replica r
+
+-- The call k had the effect e at w: what is left to be done for it, and the world u, in which its row is changed.
 pub record Ready (f : ℕ → ℕ → Bool) (w : World) (k : Work) (e : Effect) (a : Accepted) (u : World) : Type 0 where
   pub replica_is : a.kept.replica ≡ replica_of k
   pub page_is : a.kept.page ≡ e.page

@@ -17,7 +17,8 @@ pub record Ran (f : ℕ → ℕ → Bool) (w v : World) (calls : List Call) : Ty
 -- whatever run led to w from a founding, that run and these calls have the three findings
 pub record Found (f : ℕ → ℕ → Bool) (w v : World) (calls : List Call) : Type 0 where
   pub ran : Ran f w v calls
-  pub findings : (first : View) (start : World) (before : List Taken) → Founded first start → Run f start before → end_of start before ≡ w → Findings f first start (before ++ ran.takens)
+  pub findings : (first : View) (start : World) (before : List Taken) → Founded first start → Run f start before →
+      end_of start before ≡ w → Findings f first start (before ++ ran.takens)
 
 -- a founding with this first view and this need, and the calls after it: the three findings of that run
 pub record Evening (f : ℕ → ℕ → Bool) (first : View) (need : Need) (v : World) (calls : List Call) : Type 0 where

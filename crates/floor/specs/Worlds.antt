@@ -5,7 +5,14 @@ use Rattle.runs.specs.World.{World}
 use Rattle.stores.specs.declared.page.Page.{Page}
 use Rattle.floor.specs.declared.floor.Floor.{Floor}
 
--- by what its store says of its pages and its places
+-- By what the store says of its pages and its places. It is no `impl Model`: a view that is a world has lost the store, and
+-- `new` and a refused founding promise more of that than pages and places.
 abbrev pub world : {R S : Type 0} → (S → List Page) → (S → ℕ) → Floor R S → List Message → World
 world pages places floor post =
-    record { pages = pages floor.store; places = places floor.store; rows = floor.table.rows; post = post; need = floor.need }
+    record {
+      pages = pages floor.store;
+      places = places floor.store;
+      rows = floor.table.rows;
+      post = post;
+      need = floor.need;
+    }

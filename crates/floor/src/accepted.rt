@@ -35,7 +35,8 @@ fn wants_room(work: Work) -> bool
 impl Accepted {
     // Where it wants room, two places are free in the post of 65,536.
     pub(crate) fn check_room(&self, post: &[Message]) -> Result<(), Fault>
-        ensures { result ≡ allowed (refused_if (crowded self.now post.now) (floor_refusal PostFull self.now.kept.replica)) }
+        ensures { result ≡ allowed
+            (refused_if (crowded self.now post.now) (floor_refusal PostFull self.now.kept.replica)) }
     {
         let crowded = self.limited && post.len() >= 65_535;
         let replica = self.kept.replica.number();

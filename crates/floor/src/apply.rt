@@ -25,7 +25,11 @@ impl<R: QuorumRule + Copy, S: Breakable + Drop> Floor<R, S> {
             → Founded first w → Run (R.QuorumRule.carries self.old.rule) w before
             → end_of w before ≡ world S.Store.pages S.Store.places self.old post.old.items
             → Findings (R.QuorumRule.carries self.old.rule) first w
-            (before ++ (record { call = call; answer = result; world = world S.Store.pages S.Store.places self.new post.new.items }) ∷ []) }
+            (before ++ (record {
+              call = call;
+              answer = result;
+              world = world S.Store.pages S.Store.places self.new post.new.items;
+            }) ∷ []) }
     {
         self.step(post, call)
     }

@@ -2,8 +2,8 @@
 ghost use Rattle.std.specs.Prelude.{◌≡◌, List, OnOk, OnErr};
 ghost use Rattle.rows.specs.declared.message.Message.{Message};
 ghost use Rattle.runs.specs.Steps.{CutOff, Stopped};
-ghost use Rattle.runs.specs.World.{Broken, Posted, Same};
-ghost use Rattle.floor.specs.Parts.{as_failure, crowded, PutBack, Torn};
+ghost use Rattle.runs.specs.World.{Broken, Same};
+ghost use Rattle.floor.specs.Parts.{as_failure, PutBack, Tested, Torn};
 ghost use Rattle.floor.specs.Worlds.{world};
 
 use super::accepted::Accepted;
@@ -18,7 +18,8 @@ use stores::{Breakable, Store};
 impl<R: QuorumRule + Copy, S: Breakable + Drop> Floor<R, S> {
     // The page's write is broken off; refused as the write would be.
     fn cut_page(&mut self, post: &[Message], accepted: &Accepted, n: u64) -> Result<(), Fault>
-        ensures test { Posted (crowded accepted.now post.now) (S.Store.places self.old.store) accepted.now.kept.replica (as_failure result) }
+        ensures test { Tested
+            (world S.Store.pages S.Store.places self.old post.now) accepted.now (as_failure result) }
         ensures torn { OnOk result (Torn
             (world S.Store.pages S.Store.places self.old post.now) accepted.now
             (world S.Store.pages S.Store.places self.new post.now)) }
@@ -33,10 +34,12 @@ impl<R: QuorumRule + Copy, S: Breakable + Drop> Floor<R, S> {
 
     // The row is stopped, or refused put back as it was before.
     fn break_off(&mut self, post: &[Message], accepted: &Accepted, n: u64) -> Result<(), Fault>
-        ensures test { Posted (crowded accepted.now post.now) (S.Store.places self.old.store) accepted.now.kept.replica (as_failure result) }
+        ensures test { Tested
+            (world S.Store.pages S.Store.places self.old post.now) accepted.now (as_failure result) }
         ensures broken { OnOk result (Broken
             (world S.Store.pages S.Store.places self.old post.now)
-            (world S.Store.pages S.Store.places self.new post.now) accepted.now.kept.replica accepted.now.kept.page) }
+            (world S.Store.pages S.Store.places self.new post.now)
+            accepted.now.kept.replica accepted.now.kept.page) }
         ensures refused { OnErr result (PutBack
             (world S.Store.pages S.Store.places self.old post.now) accepted.now
             (world S.Store.pages S.Store.places self.new post.now)) }

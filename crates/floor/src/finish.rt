@@ -1,7 +1,7 @@
 // A call that is not cut off: its page's write and its messages.
 ghost use Rattle.std.specs.Prelude.{◌≡◌, ◌+◌, ◌≤◌, ◌++◌, vec_len, vec_capacity, IfOk, OnOk, OnErr, slice_set};
-ghost use Rattle.runs.specs.World.{Did, Posted, Same, listed, unit_of};
-ghost use Rattle.floor.specs.Parts.{crowded, Stored, PutBack};
+ghost use Rattle.runs.specs.World.{Did, Same, listed, unit_of};
+ghost use Rattle.floor.specs.Parts.{PutBack, Stored, Tested};
 ghost use Rattle.floor.specs.Worlds.{world};
 
 use super::accepted::Accepted;
@@ -34,7 +34,7 @@ impl<R: QuorumRule + Copy, S: Breakable + Drop> Floor<R, S> {
         post: &mut Vec<Message>,
         accepted: &Accepted,
     ) -> Result<(), Failure>
-        ensures test { Posted (crowded accepted.now post.old.items) (S.Store.places self.old.store) accepted.now.kept.replica result }
+        ensures test { Tested (world S.Store.pages S.Store.places self.old post.old.items) accepted.now result }
         ensures stored { OnOk result (Stored
             (world S.Store.pages S.Store.places self.old post.old.items) accepted.now
             (world S.Store.pages S.Store.places self.new post.new.items)) }
@@ -52,8 +52,8 @@ impl<R: QuorumRule + Copy, S: Breakable + Drop> Floor<R, S> {
 
     // A row is put back as it was.
     pub(crate) fn put_back(&mut self, replica: Replica, before: Row)
-        ensures rows { self.new.table.rows ≡ slice_set self.old.table.rows replica before }
-        ensures rest { (self.new.rule ≡ self.old.rule) × (self.new.store ≡ self.old.store) × (self.new.need ≡ self.old.need) }
+        ensures { self.new ≡ record self.old {
+            table = record { rows = slice_set self.old.table.rows replica before } } }
     {
         let row = self.table.row_mut(replica.index());
         *row = before;
@@ -61,7 +61,8 @@ impl<R: QuorumRule + Copy, S: Breakable + Drop> Floor<R, S> {
 
     // The end of a call that the manager accepted. Refused here, the row is put back as it was before.
     fn finish(&mut self, post: &mut Vec<Message>, accepted: &Accepted) -> Result<Answer, Failure>
-        ensures test { Posted (crowded accepted.now post.old.items) (S.Store.places self.old.store) accepted.now.kept.replica (unit_of result) }
+        ensures test { Tested
+            (world S.Store.pages S.Store.places self.old post.old.items) accepted.now (unit_of result) }
         ensures answer { IfOk result (λ a. a ≡ accepted.now.answer) }
         ensures stored { OnOk result (Stored
             (world S.Store.pages S.Store.places self.old post.old.items) accepted.now

@@ -52,7 +52,8 @@ impl<R: QuorumRule + Copy, S: Breakable + Drop> Floor<R, S> {
 
     // The page of a replica, if there is such a replica.
     pub fn page(&self, replica: u8) -> Option<Page>
-        ensures { result ≡ (if nat_lt replica 16 then Some (page_at (S.Store.pages self.now.store) replica) else None) }
+        ensures { result ≡ (if nat_lt replica 16
+            then Some (page_at (S.Store.pages self.now.store) replica) else None) }
     {
         let replica = Replica::new(replica)?;
         Some(self.store.read(replica))
@@ -72,11 +73,14 @@ impl<R: QuorumRule + Copy, S: Breakable + Drop> Floor<R, S> {
         self.need
     }
 
-    // Founding: members of the set hold the first view, all sixteen replicas are up and idle, and the post is emptied.
+    // Founding: members of the set hold the first view, all sixteen replicas are up and idle, the post is empty.
     pub fn found(&mut self, post: &mut Vec<Message>, view: View, need: Need) -> Result<(), Fault>
-        ensures answer { result ≡ allowed (founding_refusal view (S.Store.pages self.old.store) (S.Store.places self.old.store)) }
-        ensures founded { OnOk result (Founding view need (S.Store.pages self.new.store) self.new.table.rows self.new.need post.new.items) }
-        ensures begins { OnOk result (Founded view (world S.Store.pages S.Store.places self.new post.new.items)) }
+        ensures answer { result ≡ allowed
+            (founding_refusal view (S.Store.pages self.old.store) (S.Store.places self.old.store)) }
+        ensures founded { OnOk result (Founding view need
+            (S.Store.pages self.new.store) self.new.table.rows self.new.need post.new.items) }
+        ensures begins { OnOk result (Founded view
+            (world S.Store.pages S.Store.places self.new post.new.items)) }
         ensures rule { self.new.rule ≡ self.old.rule }
         ensures kept { OnErr result ((self.new ≡ self.old) × (post.new ≡ post.old)) }
     {

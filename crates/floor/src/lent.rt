@@ -45,9 +45,13 @@ impl<R: QuorumRule + Copy, S: Breakable + Drop> Floor<R, S> {
             (lent (R.QuorumRule.carries self.old.rule) self.old.need self.old.table.rows replica page.old task) }
         ensures page { page.new ≡ page_left page.old
             (lent (R.QuorumRule.carries self.old.rule) self.old.need self.old.table.rows replica page.old task) }
-        ensures rows { self.new.table.rows ≡ slice_set self.old.table.rows replica (row_left (row_at self.old.table.rows replica)
-            (lent (R.QuorumRule.carries self.old.rule) self.old.need self.old.table.rows replica page.old task)) }
-        ensures rest { (self.new.rule ≡ self.old.rule) × (self.new.store ≡ self.old.store) × (self.new.need ≡ self.old.need) }
+        ensures floor { self.new ≡ record self.old {
+          table = record {
+            rows = slice_set self.old.table.rows replica
+                (row_left (row_at self.old.table.rows replica)
+                (lent (R.QuorumRule.carries self.old.rule) self.old.need self.old.table.rows replica page.old task));
+          };
+        } }
     {
         let rule = self.rule;
         let need = self.need;

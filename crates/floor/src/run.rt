@@ -24,8 +24,8 @@ impl<R: QuorumRule + Copy, S: Breakable + Drop> Floor<R, S> {
         }
     }
 
-    // Makes the calls, one after another, whatever each answers. Whatever run led here from an accepted founding, that run
-    // and these calls have the three findings.
+    // Makes the calls, one after another, whatever each answers. Whatever run led here from an accepted founding, that
+    // run and these calls have the three findings.
     pub fn run(&mut self, post: &mut Vec<Message>, calls: &[Call])
         ensures found { Found (R.QuorumRule.carries self.old.rule)
             (world S.Store.pages S.Store.places self.old post.old.items)
@@ -43,7 +43,8 @@ impl<R: QuorumRule + Copy, S: Breakable + Drop> Floor<R, S> {
         need: Need,
         calls: &[Call],
     ) -> Result<(), Fault>
-        ensures answer { result ≡ allowed (founding_refusal first (S.Store.pages self.old.store) (S.Store.places self.old.store)) }
+        ensures answer { result ≡ allowed
+            (founding_refusal first (S.Store.pages self.old.store) (S.Store.places self.old.store)) }
         ensures evening { OnOk result (Evening (R.QuorumRule.carries self.old.rule) first need
             (world S.Store.pages S.Store.places self.new post.new.items) calls.now) }
         ensures kept { OnErr result ((self.new ≡ self.old) × (post.new ≡ post.old)) }

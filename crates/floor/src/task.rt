@@ -2,8 +2,7 @@
 use rows::Message;
 use stores::Head;
 
-// A value, so that a call that is whole and one that is cut off ask alike: with a closure for each task the two would
-// each name all tasks.
+// A value and no closure: it has an equation, `managed`, where a closure's contract is over references to rule, page and row.
 #[derive(Clone, Copy)]
 pub enum Task {
     View(Head),

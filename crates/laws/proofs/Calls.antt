@@ -142,7 +142,7 @@ lost_posts f need r p w q e d =
     subst (λ (x : Effect). x.answer.posts ≡ Nothing) a.1 (carried_posts r p (losing w q) Nothing (without_recording (verdict_of f need r p (losing w q))))
 
 -- ---- a replica stops
-stopped_so : (r : ℕ) (p : Page) (w : Row) (e : Effect) → stopped_at r p w ≡ Ok e → Offered r p w × (effect p (empty_row false) Nothing ≡ e)
+pub stopped_so : (r : ℕ) (p : Page) (w : Row) (e : Effect) → stopped_at r p w ≡ Ok e → Offered r p w × (effect p (empty_row false) Nothing ≡ e)
 unfolding stopped_at
 stopped_so r p w e d = let a = accepted (call_refusal r p w) (effect p (empty_row false) Nothing) e d in (called r p w a.0, a.1)
 

@@ -14,9 +14,6 @@ invariant_of-write g c =
     founding_keeps c.args.view c.number.result (sym c.contains.ensures.test ∙ c.if-contains.true) c.requires.number in
     record { keeps = cc (c.number.ensures.value, c.founding_page-page.ensures, keeps) }
 
-pub loop-replica-init : goal.loop-replica-init
-loop-replica-init g c = (omega (arith, c.requires.places), founded_none c.args.view (g.S.Store.pages c.args.store.now))
-
 pub loop-replica-preserved : goal.loop-replica-preserved
 loop-replica-preserved g c =
     let v = c.args.view in

@@ -3,9 +3,6 @@ use Rattle.std.proofs.lemmas.List.{take_all}
 use Rattle.floor.proofs.Making.{ran_none, ran_more}
 use Rattle.floor.proofs.floor.Floor.make_all.Goals as goal
 
-pub loop-call-init : goal.loop-call-init
-loop-call-init g c = (ran_none _ _, refl)
-
 pub loop-call-preserved : goal.loop-call-preserved
 loop-call-preserved g c =
     let now = c.loop-call.invariant in

@@ -4,18 +4,14 @@ use Rattle.runs.specs.Runs.{Run}
 use Rattle.runs.specs.World.{World}
 use Rattle.floor.proofs.floor.Floor.run.Goals as goal
 
-pub returns : goal.returns
-returns g c =
+pub returns-clause-found : goal.returns-clause-found
+returns-clause-found g c =
     let rule = c.args.self.now.rule in
-    let f = g.R.QuorumRule.carries rule in
     let met = g.met.R.QuorumRule in
     let ran = c.make_all.ensures.ran in
     record {
-      found = record {
-        ran = ran;
-        findings = λ first start before founded run ends.
-            runs_on_safe f (met.local rule) (met.whole rule) (met.grows rule) (met.meets rule) first start before ran.takens founded run
-            (subst (λ (x : World). Run f x ran.takens) (sym ends) ran.run);
-      };
-      rule = c.make_all.ensures.rule;
+      ran = ran;
+      findings = λ first start before founded run ends.
+          runs_on_safe (g.R.QuorumRule.carries rule) (met.local rule) (met.whole rule) (met.grows rule) (met.meets rule) first start before ran.takens founded run
+          (subst (λ (x : World). Run (g.R.QuorumRule.carries rule) x ran.takens) (sym ends) ran.run);
     }
