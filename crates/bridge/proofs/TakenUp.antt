@@ -10,7 +10,7 @@ use Rattle.stores.specs.declared.view.Head.{Head}
 use Rattle.stores.specs.declared.view.View.{View}
 use Rattle.rows.specs.declared.message.Message.{Message}
 use Rattle.rows.specs.declared.row.Row.{Row}
-use Rattle.manager.specs.Calls.{report_of, report_message, own_reports, round_row, beginning, topped, thinned, gathering_row, state_message, abort_message, join_message, applying_row, member_takes_up, normal_takes_up, mode_takes_up, taking_up}
+use Rattle.manager.specs.Calls.{report_message, own_reports, round_row, beginning, topped, thinned, gathering_row, state_message, abort_message, join_message, applying_row, member_takes_up, normal_takes_up, mode_takes_up, taking_up}
 use Rattle.manager.specs.Effects.{Effect, in_mode, entry_of, posts_of, judged, judged_again}
 use Rattle.manager.specs.Verdicts.{verdict_of}
 use Rattle.manager.specs.declared.need.Need.{Need}
@@ -29,6 +29,7 @@ use Rattle.bridge.proofs.Chains.{seen_maybe, formed_both, quietly, forming}
 use Rattle.bridge.proofs.Judged.{verdict_comes}
 use Rattle.bridge.proofs.Recorded.{carried_posts, enters, again, judges, after, at_once, silently}
 use Rattle.bridge.proofs.Reports.{alone_own, alone_only}
+use Rattle.rounds.specs.Reports.{report_of}
 
 -- the view is the head now, and no more
 abbrev just_taken : Page → Row → Head → Node

@@ -13,8 +13,9 @@ use Rattle.stores.specs.declared.view.Head.{Head}
 use Rattle.stores.specs.declared.view.Number.{Number}
 use Rattle.stores.specs.declared.view.Recorded.{Recorded}
 use Rattle.stores.specs.declared.view.View.{View}
-use Rattle.manager.specs.Calls.{report_of, topped, started}
+use Rattle.manager.specs.Calls.{topped, started}
 use Rattle.manager.specs.Effects.{in_mode, raised, recording, component_page, spare_page}
+use Rattle.rounds.specs.Reports.{report_of}
 
 -- the five tests of a page
 pub record Tests (r : ℕ) (p : Page) : Type 0 where

@@ -35,6 +35,7 @@ use Rattle.manager.specs.Effects.{Effect, effect, ending, nobody_set, in_mode, i
 use Rattle.manager.specs.Hearing.{Turn, hears}
 use Rattle.manager.specs.Verdicts.{verdict_of}
 use Rattle.quorum.specs.Faults.{refused_at, refused_if}
+use Rattle.rounds.specs.Reports.{report_of}
 
 -- ---- refusals
 -- a refusal of the manager, naming the replica
@@ -118,9 +119,6 @@ start_refusal r p w = first_of (offer_refusal r p w) (refused_if w.up (refusal W
 
 -- ---- what an accepted call does
 -- a replica's own report under a head
-abbrev pub report_of : Page → Report
-report_of p = record { mode = p.mode; mark = p.mark; component = p.component; recorded = p.recorded }
-
 abbrev pub report_message : ℕ → Head → Page → Message
 report_message r h p = record { sender = r; head = h; body = Reports (report_of p) }
 

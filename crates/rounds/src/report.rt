@@ -27,19 +27,6 @@ impl From<&Page> for Report {
     }
 }
 
-impl From<&Page> for Report {
-    ghost from_gives = { λ p r. r ≡ record { mode = p.now.mode; mark = p.now.mark; component = p.now.component; recorded = p.now.recorded } };
-
-    fn from(page: &Page) -> Report {
-        Report {
-            mode: page.mode,
-            mark: page.mark,
-            component: page.component,
-            recorded: page.recorded,
-        }
-    }
-}
-
 impl Report {
     // Its component view is this one.
     fn is_at(&self, view: View) -> bool

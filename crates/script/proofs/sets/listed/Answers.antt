@@ -15,7 +15,7 @@ returns-in_err-set c =
     let w = c.in-Some.word.now in
     let n = length c.loop-word.yielded in
     let all : YieldsList (given.iterator-loop-word).next_gives (λ x. x.now) c.into_iter-word-iterator.result (words t) =
-        YieldsList-at c.into_iter-word-iterator.ensures.into_iter_gives (YieldsList-from_slice_split _ (λ b. b == 44) t c.split-word-items.ensures.rest c.split-word-items.ensures.done c.split-word-items.ensures.closure (λ x r q k. search (rules, tests))) in
+    YieldsList-at c.into_iter-word-iterator.ensures.into_iter_gives (YieldsList-from_slice_split _ (λ b. b == 44) t c.split-word-items.ensures.rest c.split-word-items.ensures.done c.split-word-items.ensures.closure (λ x r q k. search (rules, tests))) in
     let so_far : map (λ x. x.now) c.loop-word.yielded ≡ take n (words t) = YieldsList-so_far all c.loop-word.yielded _ c.loop-word.yielded_by in
     let turn : (n < length (words t)) × (w ≡ get_or (words t) n w) = YieldsList-turn all c.loop-word.yielded _ c.loop-word.yielded_by _ _ c.in-Some.word c.in-Some.is c.next.ensures.steps in
     let here : with_replica c.loop-word.set (reads w) ≡ None = search rules in
