@@ -30,7 +30,7 @@ use Rattle.bridge.proofs.Down.{down_is}
 use Rattle.bridge.proofs.Heard.{Follows, stage_hears}
 use Rattle.bridge.proofs.Judged.{loss_comes, verdict_comes}
 use Rattle.bridge.proofs.Options.{err_ok, ok_inj}
-use Rattle.bridge.proofs.Recorded.{carried_posts}
+use Rattle.manager.proofs.Posted.{carried_posts}
 use Rattle.bridge.proofs.TakenUp.{taking_goes}
 
 -- what a message of the post says is in what the moves see of it

@@ -29,7 +29,8 @@ use Rattle.bridge.proofs.Accepted.{closed_stage, not_joining}
 use Rattle.bridge.proofs.Bits.{nobody_there}
 use Rattle.bridge.proofs.Chains.{seen_maybe, formed_both, quietly, forming}
 use Rattle.bridge.proofs.Judged.{verdict_comes}
-use Rattle.bridge.proofs.Recorded.{carried_posts, enters, again, judges, after, at_once, silently}
+use Rattle.manager.proofs.Posted.{carried_posts}
+use Rattle.bridge.proofs.Recorded.{enters, again, judges, after, at_once, silently}
 use Rattle.bridge.proofs.Reports.{alone_own, alone_only}
 
 -- the view is the head now, and no more

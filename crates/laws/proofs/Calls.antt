@@ -29,7 +29,8 @@ use Rattle.manager.specs.declared.need.Need.{Need}
 use Rattle.laws.specs.Laws.{Keeps, Advances, count_of, Lawful, CallsKeep, CallsAdvance, ComponentsFollow, PostsFew, RefusalsLeave}
 use Rattle.manager.proofs.Accepted.{accepted, Offered, called, announced, arrived, missed, startable}
 use Rattle.laws.proofs.Hearing.{HearingKeeps, HeardKeeps, heard_keeps}
-use Rattle.laws.proofs.Judged.{Stands, spares, closes, carried_posts}
+use Rattle.manager.proofs.Posted.{carried_posts}
+use Rattle.laws.proofs.Judged.{Stands, spares, closes}
 use Rattle.laws.proofs.Pages.{Tests, tests_of, of_tests, started_tests}
 use Rattle.laws.proofs.Recording.{judges, judges_loss}
 use Rattle.rows.proofs.Facts.{row_parts, row_from}

@@ -12,7 +12,7 @@ use rounds::Report;
 use stores::{Head, Mode, Number, Page, Recorded, View};
 
 impl Body {
-    // The kind's number.
+    // The kind's number. A cast does not give it: the kinds have fields.
     pub fn number(&self) -> u8
         ensures { result ≡ kind_number self.now }
     {
@@ -30,10 +30,7 @@ impl Body {
 fn is_reporting(mode: Mode) -> bool
     ensures { result ≡ reporting_mode mode }
 {
-    match mode {
-        Mode::Normal | Mode::Reconfiguration => true,
-        Mode::Waiting | Mode::Joining => false,
-    }
+    matches!(mode, Mode::Normal | Mode::Reconfiguration)
 }
 
 // The page that a report tells of: the head's stamp stands for the top stamp.
