@@ -69,6 +69,7 @@ fn body_keeps_rules(sender: u8, head: Head, body: &Body) -> bool
 }
 
 impl Message {
+    #[tactic(auto, unfolding(crate::specs::Messages::message_keeps))]
     pub fn keeps_rules(&self) -> bool
         ensures test { result ≡ message_keeps self.now }
         ensures sender { result ≡ true → self.now.sender < 16 }
@@ -205,6 +206,7 @@ fn stage_keeps_rules(replica: u8, page: &Page, row: &Row) -> bool
 
 impl Row {
     // Whether this may be the row of the replica, beside its page.
+    #[tactic(auto, unfolding(crate::specs::Rows::row_keeps))]
     pub fn keeps_rules(&self, replica: u8, page: &Page) -> bool
         ensures { result ≡ row_keeps replica page.now self.now }
     {
