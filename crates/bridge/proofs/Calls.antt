@@ -23,13 +23,14 @@ use Rattle.safety.specs.Replicas as Moves
 use Rattle.safety.specs.Replicas.Row.{idle}
 use Rattle.bridge.specs.Refines.{MovesTo, ViewMoves, DeliveryMoves, LossMoves, StopMoves, StartMoves, CallsMove, Refines}
 use Rattle.bridge.specs.Seen.{seen_message, seen_post, formed_by}
-use Rattle.bridge.proofs.Accepted.{accepted, Delivered, announced, delivered_facts, lost_facts, staged}
+use Rattle.manager.proofs.Accepted.{accepted, Delivered, announced, arrived, missed}
+use Rattle.bridge.proofs.Accepted.{staged}
 use Rattle.bridge.proofs.Chains.{one_move, ends_in, forming}
 use Rattle.bridge.proofs.Down.{down_is}
 use Rattle.bridge.proofs.Heard.{Follows, stage_hears}
 use Rattle.bridge.proofs.Judged.{loss_comes, verdict_comes}
 use Rattle.bridge.proofs.Options.{err_ok, ok_inj}
-use Rattle.bridge.proofs.Recorded.{carried_posts}
+use Rattle.manager.proofs.Posted.{carried_posts}
 use Rattle.bridge.proofs.TakenUp.{taking_goes}
 
 -- what a message of the post says is in what the moves see of it
@@ -69,7 +70,7 @@ module _ (carries : ℕ → ℕ → Bool) (grows : Grows carries) (meets : Meets
 
     delivered_moves : (o : Option Fault) → delivery_refusal r p w m ≡ o → delivered_to carries need r p w m o ≡ Ok e → MovesTo carries (seen_post post) r p w (head_of w.stage) e
     delivered_moves (Some fault) k i = absurd (err_ok i)
-    delivered_moves None k i = let d = delivered_facts r p w m k in heard d (hears p w m.sender m.body) (hears_moves d) i
+    delivered_moves None k i = let d = arrived r p w m k in heard d (hears p w m.sender m.body) (hears_moves d) i
 
   delivery_moves : DeliveryMoves carries need r
   unfolding delivered
@@ -80,11 +81,11 @@ module _ (carries : ℕ → ℕ → Bool) (grows : Grows carries) (meets : Meets
   unfolding lost_at
   loss_moves post p w q e i =
       let a = accepted (loss_refusal r p w q) (judged_after_loss carries need r p (losing w q)) e i in
-      let f = lost_facts r p w q a.0 in
+      let f = missed r p w q a.0 in
       let v = verdict_of carries need r p (losing w q) in
       subst (MovesTo carries post r p w (head_of w.stage)) a.1
       (forming carries post r (sym (ap formed_by (carried_posts r p (losing w q) Nothing (without_recording v))))
-      (loss_comes carries grows meets need r post p (losing w q) v (verdict_comes carries grows meets need r post p (losing w q) f.1 (staged r p w f.0)) Nothing))
+      (loss_comes carries grows meets need r post p (losing w q) v (verdict_comes carries grows meets need r post p (losing w q) f.up (staged r p w f.offer)) Nothing))
 
   -- ---- a stop and a start
   stop_moves : StopMoves carries need r

@@ -2,19 +2,15 @@
 use Rattle.std.proofs.Common.{◌≡◌, ℕ, suc, ◌+◌, Bool, true, false, ◌&&◌, ltb, List, [], ◌∷◌, ◌++◌, Some, None, Option, sym, refl, ap, ◌∙◌, subst, append-nil, add-one}
 use Rattle.std.proofs.lemmas.Bool.{cond_both, and_from}
 use Rattle.quorum.specs.Laws.{Grows, Meets}
-use Rattle.quorum.specs.Members.{has}
 use Rattle.quorum.specs.Sets.{either, single}
 use Rattle.stores.specs.Views.{recorded}
 use Rattle.stores.specs.declared.page.Mode.TheVariants.{Normal}
 use Rattle.stores.specs.declared.page.Page.{Page}
 use Rattle.stores.specs.declared.view.Head.{Head}
 use Rattle.stores.specs.declared.view.Number.{Number}
-use Rattle.stores.specs.declared.view.Recorded.{Recorded}
 use Rattle.stores.specs.declared.view.View.{View}
-use Rattle.rounds.specs.declared.outcome.Outcome.{Outcome}
 use Rattle.rows.specs.Rows.{is_normal}
 use Rattle.rows.specs.declared.message.Message.{Message}
-use Rattle.rows.specs.declared.message.Posts.{Posts}
 use Rattle.rows.specs.declared.row.Applied.{Applied}
 use Rattle.rows.specs.declared.row.Gathered.{Gathered}
 use Rattle.rows.specs.declared.row.Reference.{Reference}
@@ -22,11 +18,12 @@ use Rattle.rows.specs.declared.row.Row.{Row}
 use Rattle.rows.specs.declared.row.Stage.{Stage}
 use Rattle.rows.specs.declared.row.Stage.TheVariants.{Idle, Gathering, Confirming, Applying, Entering, Round}
 use Rattle.manager.specs.Calls.{head_of}
-use Rattle.manager.specs.Effects.{Effect, Entry, in_stage, raised, ending, component_page, component_row, spare_page, spare_row, installing, settling, carried_out, next_of, next_component, no_entry, member_entry, numbered_entry, newcomer_entry, stage_entry, entry_of, posts_of, judged_again, judged_by, judged}
+use Rattle.manager.specs.Effects.{Effect, Entry, in_stage, raised, carried_out, next_of, next_component, no_entry, member_entry, numbered_entry, newcomer_entry, stage_entry, entry_of, posts_of, judged_again, judged_by, judged}
 use Rattle.manager.specs.Verdicts.{verdict_of}
 use Rattle.manager.specs.declared.need.Need.{Need}
 use Rattle.manager.specs.declared.verdict.Verdict.{Verdict}
 use Rattle.manager.specs.declared.verdict.Verdict.TheVariants.{Stays, Records, Installs, Reconfigures, Closes, Forgets, Ends}
+use Rattle.manager.proofs.Posted.{carried_posts}
 use Rattle.safety.specs.Moves.{Move, Chain, Settlement}
 use Rattle.safety.specs.Moves.Chain.{go}
 use Rattle.safety.specs.Moves.Move.{member_records, newcomer_records}
@@ -39,26 +36,6 @@ use Rattle.bridge.specs.Seen.{seen_reference, node_of, formed_by, settlement_of}
 use Rattle.bridge.proofs.Bits.{adds_one, nobody_there}
 use Rattle.bridge.proofs.Chains.{seen_maybe, formed_both, forming}
 use Rattle.bridge.proofs.Judged.{Staged, raised_is, Comes, verdict_comes}
-
--- carrying out a verdict posts what it is given
-installing_posts : (p : Page) (w : Row) (posts : Posts) (o : Option Recorded) → (installing p w posts o).answer.posts ≡ posts
-installing_posts p w posts None = refl
-installing_posts p w posts (Some s) = refl
-
-settling_posts : (r : ℕ) (p : Page) (w : Row) (posts : Posts) (o : Outcome) (v : Option View) → (settling r p w posts o v).answer.posts ≡ posts
-settling_posts r p w posts o None = refl
-settling_posts r p w posts o (Some v) =
-    cond_both (has v.set.0 r) (ending (component_page p (Some (raised p.mark v.number.0)) v) (component_row w v) posts o (Some v)) (ending (spare_page p) (spare_row w) posts o (Some v))
-    (λ (e : Effect). e.answer.posts ≡ posts) (λ _. refl) (λ _. refl)
-
-pub carried_posts : (r : ℕ) (p : Page) (w : Row) (posts : Posts) (v : Verdict) → (carried_out r p w posts v).answer.posts ≡ posts
-carried_posts r p w posts Stays = refl
-carried_posts r p w posts Records = refl
-carried_posts r p w posts Installs = installing_posts p w posts p.recorded
-carried_posts r p w posts Reconfigures = refl
-carried_posts r p w posts Closes = refl
-carried_posts r p w posts Forgets = refl
-carried_posts r p w posts (Ends o v) = settling_posts r p w posts o v
 
 -- a replica that has recorded the head h under the number n
 abbrev recorded_node : Page → Bool → ℕ → Option Number → Head → Phase → Node

@@ -23,11 +23,14 @@ use Rattle.safety.specs.Replicas as Moves
 use Rattle.safety.specs.Replicas.Phase.{taken, gathering}
 use Rattle.safety.specs.Replicas.Row.{under}
 use Rattle.bridge.specs.Seen.{seen_stage, seen_reports, node_of, formed_by, settlement_of}
-use Rattle.bridge.proofs.Accepted.{Announced, not_joining}
+use Rattle.stores.proofs.Kept.{rules_from}
+use Rattle.manager.proofs.Accepted.{Announced}
+use Rattle.bridge.proofs.Accepted.{closed_stage, not_joining}
 use Rattle.bridge.proofs.Bits.{nobody_there}
 use Rattle.bridge.proofs.Chains.{seen_maybe, formed_both, quietly, forming}
 use Rattle.bridge.proofs.Judged.{verdict_comes}
-use Rattle.bridge.proofs.Recorded.{carried_posts, enters, again, judges, after, at_once, silently}
+use Rattle.manager.proofs.Posted.{carried_posts}
+use Rattle.bridge.proofs.Recorded.{enters, again, judges, after, at_once, silently}
 use Rattle.bridge.proofs.Reports.{alone_own, alone_only}
 use Rattle.rounds.specs.Reports.{report_of}
 
@@ -81,10 +84,10 @@ module _ (carries : ℕ → ℕ → Bool) (grows : Grows carries) (meets : Meets
   mode_goes p w h a Waiting m =
       quietly carries post r (apply h refl)
       (at_once carries grows meets need r post
-      (silently carries grows meets need r post refl (judges carries grows meets need r post (topped p h) (applying_row r w h) (Some (join_message r h)) a.up (m, (a.offer.rules.waiting m).0))))
+      (silently carries grows meets need r post refl (judges carries grows meets need r post (topped p h) (applying_row r w h) (Some (join_message r h)) a.up (m, ((rules_from r p a.offer.page).waiting m).0))))
   mode_goes p w h a Joining m = absurd (not_joining r p w h a m)
-  mode_goes p w h a Normal m = normal_goes (topped p h) w h a.up a.offer.below m (a.offer.rules.normal m) p.component refl
+  mode_goes p w h a Normal m = normal_goes (topped p h) w h a.up a.offer.below m ((rules_from r p a.offer.page).normal m) p.component refl
   mode_goes p w h a Reconfiguration m = begins (topped p h) w h None a.up a.offer.below m refl
 
   pub taking_goes : (p : Page) (w : Row) (h : Head) → Announced r p w h → Goes (node_of p w) h (taking_up carries need r p w h)
-  taking_goes p w h a = quietly carries post r (take_up h (ap seen_stage a.idle) a.member a.above) (mode_goes p w h a p.mode refl)
+  taking_goes p w h a = quietly carries post r (take_up h (ap seen_stage (closed_stage w.stage a.idle)) a.member a.later) (mode_goes p w h a p.mode refl)

@@ -1,5 +1,5 @@
 -- The laws of the five calls. Assumes nothing.
-use Rattle.std.proofs.Common.{◌≡◌, ℕ, ◌<◌, ◌≤◌, Bool, true, false, is_some, Some, None, Ok, Err, Option, Result, sym, refl, ap, subst, inl, arith}
+use Rattle.std.proofs.Common.{◌≡◌, ℕ, ◌≤◌, Bool, true, false, is_some, Some, None, Ok, Err, Option, Result, sym, refl, ap, subst, inl, arith}
 use Rattle.std.proofs.lemmas.Bool.{and_parts}
 use Rattle.quorum.specs.Members.{has}
 use Rattle.quorum.specs.declared.fault.Fault.{Fault}
@@ -27,31 +27,17 @@ use Rattle.manager.specs.declared.hearing.Hearing.{Hearing}
 use Rattle.manager.specs.declared.hearing.Hearing.TheVariants.{Heard, Answered, Outdone, Aborted}
 use Rattle.manager.specs.declared.need.Need.{Need}
 use Rattle.laws.specs.Laws.{Keeps, Advances, count_of, Lawful, CallsKeep, CallsAdvance, ComponentsFollow, PostsFew, RefusalsLeave}
-use Rattle.laws.proofs.Accepted.{accepted, Arrived, Offered, called, announced, arrived, missed, startable}
+use Rattle.manager.proofs.Accepted.{accepted, Offered, called, announced, arrived, missed, startable}
 use Rattle.laws.proofs.Hearing.{HearingKeeps, HeardKeeps, heard_keeps}
-use Rattle.laws.proofs.Judged.{Stands, spares, closes, carried_posts}
-use Rattle.laws.proofs.Pages.{Tests, of_tests, started_tests}
+use Rattle.manager.proofs.Posted.{carried_posts}
+use Rattle.laws.proofs.Judged.{Stands, spares, closes}
+use Rattle.laws.proofs.Pages.{Tests, tests_of, of_tests, started_tests}
 use Rattle.laws.proofs.Recording.{judges, judges_loss}
 use Rattle.rows.proofs.Facts.{row_parts, row_from}
 use Rattle.laws.proofs.Rows.{down_keeps, up_keeps}
 use Rattle.laws.proofs.TakingUp.{advances_itself, takes_up}
 
--- ---- an accepted call was offered a page and a row that keep the rules
-pub record Found (r : ℕ) (p : Page) (w : Row) : Type 0 where
-  pub page : keeps_rules r p ≡ true
-  pub row : row_keeps r p w ≡ true
-  pub below : r < 16
-
-found_so : (r : ℕ) (p : Page) (w : Row) → Offered r p w → Found r p w
-found_so r p w o = record { page = of_tests r p o.page; row = o.row; below = o.below }
-
 -- ---- a view is taken up
-pub viewed_found : (f : ℕ → ℕ → Bool) (need : Need) (r : ℕ) (p : Page) (w : Row) (h : Head) (e : Effect) → viewed f need r p w h ≡ Ok e → Found r p w
-unfolding viewed
-viewed_found f need r p w h e d =
-    let a = announced r p w h (accepted (view_refusal r p w h) (taking_up f need r p w h) e d).0 in
-    record { page = of_tests r p a.page; row = a.row; below = a.below }
-
 pub viewed_lawful : (f : ℕ → ℕ → Bool) (need : Need) (r : ℕ) (p : Page) (w : Row) (h : Head) (e : Effect) → viewed f need r p w h ≡ Ok e → Lawful r (Some h) p e
 unfolding viewed
 viewed_lawful f need r p w h e d =
@@ -78,7 +64,7 @@ heard_lawful f need r p w h e o i (Ok t) k d =
     let same : following f need r p x h t.hearing ≡ e = cc in
     let keep : row_keeps r p x ≡ true = row_from r p x (row_parts r p w o.row).0 k.stage in
     subst (Lawful r (head_of w.stage) p) same
-    (follows_hearing f need r (head_of w.stage) p x h w.up w.lost (stands_so r (head_of w.stage) p x k.same o.page keep) i t.hearing k.hearing)
+    (follows_hearing f need r (head_of w.stage) p x h w.up w.lost (stands_so r (head_of w.stage) p x k.same (tests_of r p o.page) keep) i t.hearing k.hearing)
 
 told_by : (m : Message) → message_keeps m ≡ true → (has m.head.set.0 m.sender ≡ true) × (body_keeps m.sender m.head m.body ≡ true)
 unfolding message_keeps
@@ -95,20 +81,11 @@ delivered_so f need r p w m e (Some fault) i d = absurd cc
 delivered_so f need r p w m e None i d =
     let a = arrived r p w m i in
     heard_lawful f need r p w m.head e a.offer a.head (hears p w m.sender m.body)
-    (heard_keeps r p w m.sender m.body a.offer.page (row_parts r p w a.offer.row).1 (under_same m (head_of w.stage) a.message a.head)) d
+    (heard_keeps r p w m.sender m.body (tests_of r p a.offer.page) (row_parts r p w a.offer.row).1 (under_same m (head_of w.stage) a.message a.head)) d
 
 pub delivered_lawful : (f : ℕ → ℕ → Bool) (need : Need) (r : ℕ) (p : Page) (w : Row) (m : Message) (e : Effect) → delivered f need r p w m ≡ Ok e → Lawful r (head_of w.stage) p e
 unfolding delivered
 delivered_lawful f need r p w m e d = delivered_so f need r p w m e (delivery_refusal r p w m) refl d
-
-arrived_so : (f : ℕ → ℕ → Bool) (need : Need) (r : ℕ) (p : Page) (w : Row) (m : Message) (e : Effect) (o : Option Fault) → delivery_refusal r p w m ≡ o → delivered_to f need r p w m o ≡ Ok e → Arrived r p w m
-arrived_so f need r p w m e (Some fault) i d = absurd cc
-arrived_so f need r p w m e None i d = arrived r p w m i
-
-pub delivered_found : (f : ℕ → ℕ → Bool) (need : Need) (r : ℕ) (p : Page) (w : Row) (m : Message) (e : Effect) → delivered f need r p w m ≡ Ok e → Found r p w × (message_keeps m ≡ true)
-unfolding delivered
-delivered_found f need r p w m e d =
-    let a = arrived_so f need r p w m e (delivery_refusal r p w m) refl d in (found_so r p w a.offer, a.message)
 
 -- ---- a replica of the head is lost
 -- with the head open, a row's rules say nothing of the lost
@@ -129,11 +106,7 @@ lost_lawful f need r p w q e d =
     let x = losing w q in
     subst (Lawful r (head_of w.stage) p) a.1
     (judges_loss f need r (head_of w.stage) p p x
-    (stands_so r (head_of w.stage) p x refl o.offer.page (row_from r p x k.0 (losing_stage r p w.up w.lost x.lost w.stage o.opened k.1))))
-
-pub lost_found : (f : ℕ → ℕ → Bool) (need : Need) (r : ℕ) (p : Page) (w : Row) (q : ℕ) (e : Effect) → lost_at f need r p w q ≡ Ok e → Found r p w
-unfolding lost_at
-lost_found f need r p w q e d = found_so r p w (missed r p w q (accepted (loss_refusal r p w q) (judged_after_loss f need r p (losing w q)) e d).0).offer
+    (stands_so r (head_of w.stage) p x refl (tests_of r p o.offer.page) (row_from r p x k.0 (losing_stage r p w.up w.lost x.lost w.stage o.opened k.1))))
 
 pub lost_posts : (f : ℕ → ℕ → Bool) (need : Need) (r : ℕ) (p : Page) (w : Row) (q : ℕ) (e : Effect) → lost_at f need r p w q ≡ Ok e → e.answer.posts ≡ Nothing
 unfolding lost_at
@@ -144,24 +117,18 @@ lost_posts f need r p w q e d =
 -- ---- a replica stops
 pub stopped_so : (r : ℕ) (p : Page) (w : Row) (e : Effect) → stopped_at r p w ≡ Ok e → Offered r p w × (effect p (empty_row false) Nothing ≡ e)
 unfolding stopped_at
-stopped_so r p w e d = let a = accepted (call_refusal r p w) (effect p (empty_row false) Nothing) e d in (called r p w a.0, a.1)
-
-pub stopped_found : (r : ℕ) (p : Page) (w : Row) (e : Effect) → stopped_at r p w ≡ Ok e → Found r p w
-stopped_found r p w e d = found_so r p w (stopped_so r p w e d).0
+stopped_so r p w e d = let a = accepted (call_refusal r p w) (effect p (empty_row false) Nothing) e d in ((called r p w a.0).0, a.1)
 
 pub stopped_lawful : (r : ℕ) (p : Page) (w : Row) (e : Effect) → stopped_at r p w ≡ Ok e → Lawful r None p e
 stopped_lawful r p w e d =
     let a = stopped_so r p w e d in
     subst (Lawful r None p) a.1
-    (record { keeps = record { page = of_tests r p a.0.page; row = down_keeps r p; posts = tt }; advances = advances_itself p; follows = inl refl })
+    (record { keeps = record { page = a.0.page; row = down_keeps r p; posts = tt }; advances = advances_itself p; follows = inl refl })
 
 -- ---- a replica starts
 started_so : (r : ℕ) (p : Page) (w : Row) (e : Effect) → started_at r p w ≡ Ok e → Offered r p w × (effect (in_mode (started p.mode) p) (empty_row true) Nothing ≡ e)
 unfolding started_at
 started_so r p w e d = let a = accepted (start_refusal r p w) (effect (in_mode (started p.mode) p) (empty_row true) Nothing) e d in (startable r p w a.0, a.1)
-
-pub started_found : (r : ℕ) (p : Page) (w : Row) (e : Effect) → started_at r p w ≡ Ok e → Found r p w
-started_found r p w e d = found_so r p w (started_so r p w e d).0
 
 started_mode : (m : Mode) → is_joining (started m) ≡ false
 started_mode Waiting = refl
@@ -176,7 +143,7 @@ started_lawful r p w e d =
     let adv = advances_itself p in
     subst (Lawful r None p) a.1
     (record {
-      keeps = record { page = of_tests r x (started_tests r p a.0.page); row = up_keeps r x (started_mode p.mode); posts = tt };
+      keeps = record { page = of_tests r x (started_tests r p (tests_of r p a.0.page)); row = up_keeps r x (started_mode p.mode); posts = tt };
       advances = record { top = adv.top; mark = adv.mark };
       follows = inl refl;
     })

@@ -23,7 +23,7 @@ use Rattle.stores.specs.declared.view.Number.{Number}
 use Rattle.stores.specs.declared.view.Recorded.{Recorded}
 use Rattle.stores.specs.declared.view.View.{View}
 use Rattle.manager.specs.Calls.{head_of}
-use Rattle.manager.specs.Effects.{Effect, effect, ending, in_mode, closed, raised, component_page, component_row, spare_page, spare_row, installing, settling, carried_out, recorded_message, without_recording}
+use Rattle.manager.specs.Effects.{effect, ending, in_mode, closed, raised, component_page, component_row, spare_page, spare_row, installing, settling, carried_out, recorded_message, without_recording}
 use Rattle.manager.specs.Verdicts.{need_of, unheard, nobody, gathering_verdict, carrying_verdict, possible_senders, asked, need_met, heard_of, round_end, with_component, stage_verdict, verdict_of}
 use Rattle.manager.specs.declared.need.Need.{Need}
 use Rattle.manager.specs.declared.verdict.Verdict.{Verdict}
@@ -242,23 +242,3 @@ module _ (r : ℕ) (head : Option Head) (q p : Page) (w : Row) (posts : Posts) (
   carried Closes x = closes x
   carried Forgets x = forgets x
   carried (Ends o v) x = settles o v x.0 x.1
-
--- ---- whatever the verdict, it posts what it is handed
-installing_posts : (p : Page) (w : Row) (posts : Posts) (o : Option Recorded) → (installing p w posts o).answer.posts ≡ posts
-installing_posts p w posts None = refl
-installing_posts p w posts (Some s) = refl
-
-settling_posts : (r : ℕ) (p : Page) (w : Row) (posts : Posts) (o : Outcome) (v : Option View) → (settling r p w posts o v).answer.posts ≡ posts
-settling_posts r p w posts o None = refl
-settling_posts r p w posts o (Some v) =
-    cond_both (has v.set.0 r) (ending (component_page p (Some (raised p.mark v.number.0)) v) (component_row w v) posts o (Some v))
-    (ending (spare_page p) (spare_row w) posts o (Some v)) (λ (e : Effect). e.answer.posts ≡ posts) (λ _. refl) (λ _. refl)
-
-pub carried_posts : (r : ℕ) (p : Page) (w : Row) (posts : Posts) (v : Verdict) → (carried_out r p w posts v).answer.posts ≡ posts
-carried_posts r p w posts Stays = refl
-carried_posts r p w posts Records = refl
-carried_posts r p w posts Installs = installing_posts p w posts p.recorded
-carried_posts r p w posts Reconfigures = refl
-carried_posts r p w posts Closes = refl
-carried_posts r p w posts Forgets = refl
-carried_posts r p w posts (Ends o v) = settling_posts r p w posts o v

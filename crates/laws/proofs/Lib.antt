@@ -6,5 +6,4 @@ pub mod Judged
 pub mod Recording
 pub mod Hearing
 pub mod TakingUp
-pub mod Accepted
 pub mod Calls

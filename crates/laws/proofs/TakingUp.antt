@@ -10,7 +10,7 @@ use Rattle.quorum.specs.declared.set.ReplicaSet.{ReplicaSet}
 use Rattle.rounds.specs.Reports.{reported}
 use Rattle.rows.specs.Messages.{reporting_mode, report_keeps, message_keeps}
 use Rattle.rows.specs.Recorders.{no_recorders}
-use Rattle.rows.specs.Rows.{is_normal, survivors_keep, has_next, not_later, report_breaks, stage_keeps, row_keeps}
+use Rattle.rows.specs.Rows.{survivors_keep, has_next, not_later, report_breaks, stage_keeps, row_keeps}
 use Rattle.rows.specs.declared.message.Message.{Message}
 use Rattle.rows.specs.declared.message.Posts.{Posts}
 use Rattle.rows.specs.declared.message.Posts.TheVariants.{Nothing}
@@ -32,7 +32,8 @@ use Rattle.manager.specs.declared.need.Need.{Need}
 use Rattle.laws.specs.Laws.{NotLower, Advances, Lawful}
 use Rattle.laws.proofs.Hearing.{one_more, report_kept, report_told}
 use Rattle.laws.proofs.Judged.{Stands, verdict_fits, carried}
-use Rattle.laws.proofs.Pages.{Tests, of_tests, topped_tests, reconfigured_tests, has_view}
+use Rattle.manager.proofs.Accepted.{Announced}
+use Rattle.laws.proofs.Pages.{Tests, of_tests, topped_tests, reconfigured_tests, has_view, tests_of}
 use Rattle.laws.proofs.Recording.{Told, posts_keep, entry_stands, again, judges}
 use Rattle.rows.proofs.Facts.{row_parts, row_from, gathering_back, applying_back, round_back}
 use Rattle.laws.proofs.Subsets.{within_itself, within_none, within_alone, within_less, within_first, within_second, recorders_none}
@@ -45,16 +46,6 @@ same_mark (Some m) = le_refl m.0
 
 pub advances_itself : (p : Page) → Advances p p
 advances_itself p = record { top = le_refl p.top.0; mark = same_mark p.mark }
-
--- what an announced view is, where it is not refused
-pub record Announced (r : ℕ) (p : Page) (w : Row) (h : Head) : Type 0 where
-  pub page : Tests r p
-  pub row : row_keeps r p w ≡ true
-  pub below : r < 16
-  pub holds : has h.set.0 r ≡ true
-  pub idle : is_some (head_of w.stage) ≡ false
-  pub later : p.top.0 < h.stamp.0
-  pub room : (is_normal p.mode && at_highest p.component) ≡ false
 
 -- ---- the messages
 plain_told : (r : ℕ) (h : Head) → has h.set.0 r ≡ true → Told (Some (join_message r h)) × Told (Some (abort_message r h))
@@ -69,22 +60,25 @@ state_told r h c s i l a b =
     (and_from (ltb c.number.0 1000000000 && within s.0 c.set.0) (within s.0 h.set.0) (and_from (ltb c.number.0 1000000000) (within s.0 c.set.0) l a) b)
 
 module _ (f : ℕ → ℕ → Bool) (need : Need) (r : ℕ) (p : Page) (w : Row) (h : Head) (a : Announced r p w h) where
+  page : Tests r p
+  page = tests_of r p a.offer.page
+
   -- nothing was recorded under a later stamp
   recorded_before : (o : Option Recorded) → recorded_fits r p.top.0 p.mark o ≡ true → not_later h o ≡ true
   recorded_before None e = refl
   recorded_before (Some s) e = let l = a.later in grind (arith, nat_tests)
 
   before : not_later h p.recorded ≡ true
-  before = recorded_before p.recorded a.page.recorded
+  before = recorded_before p.recorded page.recorded
 
   survivors_in : survivors_keep w.survivors p.component ≡ true
-  survivors_in = (row_parts r p w a.row).0
+  survivors_in = (row_parts r p w a.offer.row).0
 
   -- the top stamp is the view's, with this row
   topped_stands : (x : Row) → Some h ≡ head_of x.stage → row_keeps r (topped p h) x ≡ true → (posts : Posts) → Stands r (Some h) p posts (topped p h) x
   topped_stands x i k posts = record {
     same = i;
-    page = topped_tests r p h (let l = a.later in omega arith) a.page;
+    page = topped_tests r p h (let l = a.later in omega arith) page;
     row = k;
     advances = record { top = let l = a.later in omega arith; mark = same_mark p.mark };
     component = refl;
@@ -102,8 +96,8 @@ module _ (f : ℕ → ℕ → Bool) (need : Need) (r : ℕ) (p : Page) (w : Row)
   only_topped : Lawful r (Some h) p (effect (topped p h) w Nothing)
   only_topped = record {
     keeps = record {
-      page = of_tests r (topped p h) (topped_tests r p h (let l = a.later in omega arith) a.page);
-      row = row_from r (topped p h) w survivors_in (idle_topped w.stage a.idle (row_parts r p w a.row).1);
+      page = of_tests r (topped p h) (topped_tests r p h (let l = a.later in omega arith) page);
+      row = row_from r (topped p h) w survivors_in (idle_topped w.stage a.idle (row_parts r p w a.offer.row).1);
       posts = tt;
     };
     advances = record { top = let l = a.later in omega arith; mark = same_mark p.mark };
@@ -112,7 +106,7 @@ module _ (f : ℕ → ℕ → Bool) (need : Need) (r : ℕ) (p : Page) (w : Row)
 
   -- ---- a round begins
   own_kept : (x : Page) → report_keeps r h (report_of x) ≡ true → (k : ℕ) → k < 16 → report_breaks h k (reported (own_reports r x) k) ≡ false
-  own_kept x n = one_more h r (replicate 16 None) (report_of x) a.holds n (λ k l. ap (report_breaks h k) (get_or-replicate 16 k None None l))
+  own_kept x n = one_more h r (replicate 16 None) (report_of x) a.member n (λ k l. ap (report_breaks h k) (get_or-replicate 16 k None None l))
 
   begins : (x : Page) (y : Row) (first : Option Message) → x.mode ≡ Reconfiguration → Tests r x → h.stamp.0 ≤ x.top.0 → survivors_keep y.survivors x.component ≡ true →
       Advances p x → x.component ≡ p.component → x.recorded ≡ p.recorded → Told first → Lawful r (Some h) p (beginning f need r x y h first)
@@ -121,10 +115,10 @@ module _ (f : ℕ → ℕ → Bool) (need : Need) (r : ℕ) (p : Page) (w : Row)
       let own = report_kept r x h t (ap reporting_mode m) late in
       let keep : row_keeps r x (round_row r x y h) ≡ true =
       row_from r x (round_row r x y h) s (round_back r x h (own_reports r x)
-      (record { reconfiguration = rw m; head = record { holds = a.holds; stamped = l }; reports = own_kept x own })) in
+      (record { reconfiguration = rw m; head = record { holds = a.member; stamped = l }; reports = own_kept x own })) in
       carried r (Some h) p x (round_row r x y h) (posts_of first (Some (report_message r h x)))
       (record { page = t; row = keep; same = refl; advances = v; component = c; recorded = λ s e. inl (sym d ∙ e) })
-      (posts_keep first (Some (report_message r h x)) told (report_told r x h a.holds own))
+      (posts_keep first (Some (report_message r h x)) told (report_told r x h a.member own))
       (verdict_of f need r x (round_row r x y h)) (verdict_fits (Some h) f need r x (round_row r x y h) refl t keep)
 
   -- ---- waiting
@@ -135,13 +129,13 @@ module _ (f : ℕ → ℕ → Bool) (need : Need) (r : ℕ) (p : Page) (w : Row)
       (applying_back r (topped p h) h (record { sources = record { 0 = less h.set.0 (single r) }; joins = record { 0 = 0 }; states = record { 0 = 0 }; reference = None })
       (record {
         waiting = rw m;
-        head = record { holds = a.holds; stamped = le_refl h.stamp.0 };
+        head = record { holds = a.member; stamped = le_refl h.stamp.0 };
         reference = refl;
         sources = within_less h.set.0 (single r) h.set.0 (within_itself h.set.0);
         joins = within_none h.set.0;
         states = within_none h.set.0;
       }))))
-      (Some (join_message r h)) (plain_told r h a.holds).0
+      (Some (join_message r h)) (plain_told r h a.member).0
 
   -- ---- normal, with the component view c
   module _ (m : p.mode ≡ Normal) (c : View) (e : p.component ≡ Some c) where
@@ -163,10 +157,10 @@ module _ (f : ℕ → ℕ → Bool) (need : Need) (r : ℕ) (p : Page) (w : Row)
         (gathering_back r (topped p h) h (record { states = record { 0 = single r }; recorders = no_recorders; answered = false })
         (record {
           normal = rw m;
-          head = record { holds = a.holds; stamped = le_refl h.stamp.0 };
+          head = record { holds = a.member; stamped = le_refl h.stamp.0 };
           next = next;
           later = before;
-          states = within_alone h.set.0 r a.holds;
+          states = within_alone h.set.0 r a.member;
           recorders = recorders_none h.set.0;
         })))
 
@@ -182,10 +176,10 @@ module _ (f : ℕ → ℕ → Bool) (need : Need) (r : ℕ) (p : Page) (w : Row)
         (judged f need r x (gathering_row r y h) (Some (state_message r h c y.survivors))) (Lawful r (Some h) p)
         (λ _. again f need r (Some h) p None (entry_of r x (gathering_row r y h)) tt (entry_stands r (Some h) p x (gathering_row r y h) None gathers))
         (λ _. judges f need r (Some h) p x (gathering_row r y h) gathers (Some (state_message r h c y.survivors))
-        (state_told r h c y.survivors a.holds (lt-ltb c.number.0 1000000000 low) thin (within_second w.survivors.0 h.set.0))))
+        (state_told r h c y.survivors a.member (lt-ltb c.number.0 1000000000 low) thin (within_second w.survivors.0 h.set.0))))
         (λ _. begins (in_mode Reconfiguration x) y (Some (abort_message r h)) refl
         (reconfigured_tests r x (has_view r x st.page (λ n. cc)) st.page) (le_refl h.stamp.0) thin_keeps
-        (record { top = st.advances.top; mark = st.advances.mark }) refl refl (plain_told r h a.holds).1)
+        (record { top = st.advances.top; mark = st.advances.mark }) refl refl (plain_told r h a.member).1)
 
   normals : p.mode ≡ Normal → (o : Option View) → p.component ≡ o → Lawful r (Some h) p (normal_takes_up f need r (topped p h) w h o)
   normals m None e = only_topped
@@ -193,7 +187,7 @@ module _ (f : ℕ → ℕ → Bool) (need : Need) (r : ℕ) (p : Page) (w : Row)
 
   reconfigures : p.mode ≡ Reconfiguration → Lawful r (Some h) p (beginning f need r (topped p h) w h None)
   reconfigures m =
-      begins (topped p h) w None m (topped_tests r p h (let l = a.later in omega arith) a.page) (le_refl h.stamp.0) survivors_in
+      begins (topped p h) w None m (topped_tests r p h (let l = a.later in omega arith) page) (le_refl h.stamp.0) survivors_in
       (record { top = let l = a.later in omega arith; mark = same_mark p.mark }) refl refl tt
 
   modes : (m : Mode) → p.mode ≡ m → Lawful r (Some h) p (mode_takes_up f need r (topped p h) w h m)

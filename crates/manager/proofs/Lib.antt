@@ -1,2 +1,4 @@
+pub mod Accepted
+pub mod Posted
 pub mod Refusing
 pub mod Turns

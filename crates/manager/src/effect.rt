@@ -157,7 +157,8 @@ fn next_number(number: Number) -> Option<Number>
     }
 }
 
-// A member records the head with its component view's number plus one. Its own Recorded counts as heard.
+// A member records the head with its component view's number plus one. Its own Recorded counts as heard. An absent view goes by
+// `else`: a rule of the project.
 fn record_member(
     replica: Replica,
     page: &mut Page,
@@ -183,7 +184,7 @@ fn record_member(
     Some(write_entry(replica, page, head, number, Part::Member))
 }
 
-// A newcomer records the head with the reference's number plus one, and joins.
+// A newcomer records the head with the reference's number plus one, and joins. An absent reference goes by `else`, as above.
 fn record_newcomer(
     replica: Replica,
     page: &mut Page,

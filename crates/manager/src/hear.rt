@@ -52,7 +52,7 @@ fn fix(reference: Option<Reference>, component: View, survivors: ReplicaSet) -> 
     })
 }
 
-// The number that a round starts from.
+// The number that a round starts from. The views that may be absent are met one by one, each with its `else`: a rule of the project.
 fn base(page: &Page) -> Option<u32>
     ensures { result ≡ base_of page.now.component page.now.recorded }
 {
@@ -65,7 +65,8 @@ fn base(page: &Page) -> Option<u32>
     Some(recorded.view.number.0.saturating_sub(1))
 }
 
-// A report of mode normal with a component view above the base: the board has gone on without this replica.
+// A report of mode normal with a component view above the base: the board has gone on without this replica. As in `base`, what may
+// be absent is met one by one.
 fn is_outdone(page: &Page, report: &Report) -> bool
     ensures { result ≡ outdoes page.now report.now }
 {

@@ -87,7 +87,7 @@ impl<R: QuorumRule> Terms<'_, R> {
         Verdict::Closes
     }
 
-    // Of those heard and those who may still be, who carries the set?
+    // Of those heard and those who may still be, who carries the set? The survivors are the row's or, entering, the reference's.
     fn judge_carrying(
         &self,
         heard: ReplicaSet,

@@ -12,7 +12,7 @@ use rounds::Report;
 use stores::{Head, Mode, Number, Page, Recorded, View};
 
 impl Body {
-    // The kind's number.
+    // The kind's number. A cast does not give it: the kinds have fields.
     pub fn number(&self) -> u8
         ensures { result ≡ kind_number self.now }
     {
@@ -30,10 +30,7 @@ impl Body {
 fn is_reporting(mode: Mode) -> bool
     ensures { result ≡ reporting_mode mode }
 {
-    match mode {
-        Mode::Normal | Mode::Reconfiguration => true,
-        Mode::Waiting | Mode::Joining => false,
-    }
+    matches!(mode, Mode::Normal | Mode::Reconfiguration)
 }
 
 // The page that a report tells of: the head's stamp stands for the top stamp.
@@ -72,6 +69,7 @@ fn body_keeps_rules(sender: u8, head: Head, body: &Body) -> bool
 }
 
 impl Message {
+    #[tactic(auto, unfolding(crate::specs::Messages::message_keeps))]
     pub fn keeps_rules(&self) -> bool
         ensures test { result ≡ message_keeps self.now }
         ensures sender { result ≡ true → self.now.sender < 16 }
@@ -208,6 +206,7 @@ fn stage_keeps_rules(replica: u8, page: &Page, row: &Row) -> bool
 
 impl Row {
     // Whether this may be the row of the replica, beside its page.
+    #[tactic(auto, unfolding(crate::specs::Rows::row_keeps))]
     pub fn keeps_rules(&self, replica: u8, page: &Page) -> bool
         ensures { result ≡ row_keeps replica page.now self.now }
     {
