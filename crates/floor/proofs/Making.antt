@@ -10,9 +10,6 @@ use Rattle.runs.specs.World.{World}
 use Rattle.runs.specs.declared.work.Call.{Call}
 use Rattle.floor.specs.Ran.{Ran}
 
-pub ran_none : (f : ℕ → ℕ → Bool) (w : World) → Ran f w w []
-ran_none f w = record { takens = []; calls_are = refl; run = tt; ends = refl }
-
 calls_more : (ts : List Taken) (t : Taken) → map (λ x. x.call) (ts ++ t ∷ []) ≡ map (λ x. x.call) ts ++ t.call ∷ []
 calls_more [] t = refl
 calls_more (x ∷ ts) t = ap (λ cs. x.call ∷ cs) (calls_more ts t)

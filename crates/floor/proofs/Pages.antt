@@ -22,10 +22,6 @@ pub founding_keeps : (v : View) (r : ℕ) → has v.set.0 r ≡ true → v.numbe
 unfolding keeps_rules
 founding_keeps v r h l = grind (arith, nat_tests)
 
--- before any write
-pub founded_none : (v : View) (xs : List Page) → FoundedPages v xs 0 xs
-founded_none v xs r l = grind (arith, nat_tests)
-
 -- a member's page is written
 pub founded_write : (v : View) (xs ys : List Page) (n : ℕ) → length ys ≡ 16 → n < 16 → has v.set.0 n ≡ true → FoundedPages v xs n ys →
     FoundedPages v xs (n + 1) (set ys n (founding_page v))

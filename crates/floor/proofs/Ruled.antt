@@ -8,14 +8,13 @@ use Rattle.quorum.specs.declared.fault.Failure.TheVariants.{Refused, NoMemory}
 use Rattle.quorum.specs.declared.fault.Fault.{Fault}
 use Rattle.quorum.specs.declared.fault.Reason.TheVariants.{PostFull}
 use Rattle.quorum.specs.Faults.{refused_if}
-use Rattle.manager.specs.Calls.{answer_of, page_left, row_left, stopped_at, call_refusal, unless_refused, empty_row}
-use Rattle.manager.specs.Effects.{Effect, effect}
+use Rattle.manager.specs.Calls.{answer_of, page_left, row_left, stopped_at, empty_row}
+use Rattle.manager.specs.Effects.{Effect}
 use Rattle.manager.specs.declared.answer.Answer.{Answer}
 use Rattle.manager.specs.declared.need.Need.{Need}
 use Rattle.laws.specs.Laws.{Keeps}
 use Rattle.laws.proofs.Calls.{viewed_keeps, delivered_keeps, lost_keeps, started_keeps, stopped_keeps, stopped_so}
 use Rattle.rows.specs.declared.message.Message.{Message}
-use Rattle.rows.specs.declared.message.Posts.TheVariants.{Nothing}
 use Rattle.rows.specs.declared.row.Row.{Row}
 use Rattle.runs.specs.Founding.{row_at}
 use Rattle.runs.specs.Steps.{Halted, quiet, stopped}
@@ -38,6 +37,11 @@ given_ok (Some y) a b e = (λ rest. cc, cc)
 given_err : {A : Type 0} (o : Option Fault) (a : A) (x : Fault) (rest : Result Effect Fault) → Err x ≡ given o a → unless o rest ≡ Err x
 given_err None a x rest e = cc
 given_err (Some y) a x rest e = cc
+
+-- a refusal is the same, whatever would have been given
+pub given_on : {A B : Type 0} (o : Option Fault) (a : A) (b : B) (x : Fault) → Err x ≡ given o a → Err x ≡ given o b
+given_on None a b x e = cc
+given_on (Some y) a b x e = cc
 
 module _ (f : ℕ → ℕ → Bool) (w : World) where
   delivery_refuses : (r : ℕ) (o : Option Fault) (m : Option Message) (x : Fault) → Err x ≡ delivery_task r o m → unless o (delivered_or_not f w r m) ≡ Err x

@@ -53,7 +53,8 @@ impl<R: QuorumRule + Copy, S: Breakable + Drop> Floor<R, S> {
     // A row is put back as it was.
     pub(crate) fn put_back(&mut self, replica: Replica, before: Row)
         ensures { self.new ≡ record self.old {
-            table = record { rows = slice_set self.old.table.rows replica before } } }
+          table = record { rows = slice_set self.old.table.rows replica before };
+        } }
     {
         let row = self.table.row_mut(replica.index());
         *row = before;

@@ -4,7 +4,7 @@ use Rattle.quorum.proofs.Below.{everybody_at}
 use Rattle.stores.specs.Rules.{keeps_rules}
 use Rattle.stores.specs.declared.page.Page.{Page}
 use Rattle.runs.specs.Founding.{founding_page, FoundedPages}
-use Rattle.floor.proofs.Pages.{founding_keeps, founded_none, founded_write, founded_skip}
+use Rattle.floor.proofs.Pages.{founding_keeps, founded_write, founded_skip}
 use Rattle.floor.proofs.founding.write_founding.Goals as goal
 use Rattle.floor.proofs.founding.write_founding.Goals.{then-contains+in_ok-write, else-contains}
 

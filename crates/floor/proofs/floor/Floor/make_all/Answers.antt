@@ -1,6 +1,6 @@
-use Rattle.std.proofs.Common.{refl, ◌∙◌}
+use Rattle.std.proofs.Common.{◌∙◌}
 use Rattle.std.proofs.lemmas.List.{take_all}
-use Rattle.floor.proofs.Making.{ran_none, ran_more}
+use Rattle.floor.proofs.Making.{ran_more}
 use Rattle.floor.proofs.floor.Floor.make_all.Goals as goal
 
 pub loop-call-preserved : goal.loop-call-preserved
