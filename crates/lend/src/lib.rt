@@ -5,6 +5,7 @@ ghost use Rattle.std.specs.Prelude.{◌≡◌, ◌<◌, length, slice_index_or, 
 ghost use Rattle.std.specs.Borrow.{sem, follows};
 ghost use Rattle.lend.specs.contracts.Table.{the_row};
 
+// An array of a type parameter is read through a slice, since indexing it has no generated proof yet; so `row_mut` is proved by hand.
 #[derive(Drop)]
 pub struct Table<T> {
     rows: [T; 16],

@@ -9,6 +9,7 @@ use super::rule::QuorumRule;
 use super::set::ReplicaSet;
 use super::weights::WeightRule;
 
+// An enum and no `Option<WeightRule>`, in which `None` would not say which rule it is; and no `dyn`, which a floor cannot copy out.
 #[derive(Clone, Copy)]
 pub enum ChosenRule {
     Count,

@@ -5,6 +5,7 @@ ghost use Rattle.quorum.specs.Majority.{one_positive, majority_local, majority_w
 use super::rule::QuorumRule;
 use super::set::ReplicaSet;
 
+// A type of its own beside weights of 1: that both sets' ones are counted is a rule of the project.
 #[derive(Clone, Copy)]
 pub struct CountRule;
 

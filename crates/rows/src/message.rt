@@ -30,7 +30,7 @@ pub struct Message {
     pub body: Body,
 }
 
-// The messages to be posted by a call, in order.
+// The messages to be posted by a call, in order. An enum: no call uses memory, and two `Option`s could be a second without a first.
 #[derive(Clone, Copy)]
 pub enum Posts {
     Nothing,

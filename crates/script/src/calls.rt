@@ -1,4 +1,5 @@
-// Calls at one replica, as a script writes them.
+// Calls at one replica, as a script writes them. The readers give `Option`, as those of words do: `parse` names the one error.
+// Each takes its words one by one: an array of them by a size parameter (tried) is not proved yet.
 use super::numerals::{number, number8, number32};
 use super::sets::members;
 use super::words::{end, first_word};

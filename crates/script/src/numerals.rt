@@ -26,7 +26,8 @@ pub fn number(word: &[u8]) -> Option<u64>
     Some(value)
 }
 
-// The number that a word reads as, where 8 bits hold it.
+// The number that a word reads as, where 8 bits hold it. One function for both widths is no plainer: its bound and its clause
+// would be longer than the two bodies.
 pub fn number8(word: &[u8]) -> Option<u8>
     ensures { result ≡ below 256 (reads word.now) }
 {

@@ -24,14 +24,10 @@ pub fn page(
     component: Option<View>,
     recorded: Option<Recorded>,
 ) -> Page {
-    let mark = match mark {
-        Some(number) => Some(Number(number)),
-        None => None,
-    };
     Page {
         mode,
         top: Stamp(40),
-        mark,
+        mark: mark.map(Number),
         component,
         recorded,
     }
