@@ -38,7 +38,7 @@ impl<R: QuorumRule + Copy, S: Breakable + Drop> Floor<R, S> {
         Ok(found)
     }
 
-    // There is such a replica, and it is down.
+    // There is such a replica, and it is down. A function beside the one above: a flag for up at each call would be no plainer.
     fn check_down(&self, replica: u8) -> Result<Replica, Fault>
         ensures { result ≡ given (down_test self.now.table.rows replica) replica }
     {
@@ -52,11 +52,9 @@ impl<R: QuorumRule + Copy, S: Breakable + Drop> Floor<R, S> {
     fn check_loss(&self, replica: u8, lost: u8) -> Result<Replica, Fault>
         ensures { result ≡ given (loss_test self.now.table.rows replica lost) replica }
     {
-        let found = find(replica)?;
+        find(replica)?;
         find(lost)?;
-        let down = !self.table.row(found.index()).up;
-        refuse_if(down, Reason::WrongPower.at(replica, Layer::Floor))?;
-        Ok(found)
+        self.check_up(replica)
     }
 
     // A message against the rules comes first, an index past the post last.

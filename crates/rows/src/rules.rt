@@ -33,7 +33,7 @@ fn is_reporting(mode: Mode) -> bool
     matches!(mode, Mode::Normal | Mode::Reconfiguration)
 }
 
-// The page that a report tells of: the head's stamp stands for the top stamp.
+// The page that a report tells of: the head's stamp stands for the top stamp. It is made of both, so there is no `From` for it.
 fn reported_page(head: Head, report: &Report) -> Page
     ensures { result ≡ reported_page head report.now }
 {

@@ -86,7 +86,7 @@ fn bad_pages(rt: HostRuntime) {
     }
 }
 
-// A page with a view is that of a replica of the view, and of no other; a fresh page is anybody's.
+// A page with a view is that of a replica of the view, and of no other; a fresh page is anybody's. Numbers above 15 are asked for too.
 #[test]
 fn whose_page(rt: HostRuntime) {
     let member = page(Mode::Normal, Some(7), Some(view(7)), None);
