@@ -1,5 +1,5 @@
 -- A new floor, and its founding. Assumes nothing.
-use Rattle.std.specs.Prelude.{◌≡◌, ℕ, ◌<◌, Bool, true, false, cond, not, ◌&&◌, ◌||◌, List, [], is_some, Some, None, Option, ◌==◌, nat_lt, slice_index_or}
+use Rattle.std.specs.Prelude.{◌≡◌, ℕ, ◌<◌, Bool, true, false, if◌then◌else◌, not, ◌&&◌, ◌||◌, List, [], is_some, Some, None, Option, ◌==◌, nat_lt, slice_index_or}
 use Rattle.std.specs.Option.{option_or}
 use Rattle.quorum.specs.Below.{any}
 use Rattle.quorum.specs.Members.{has}
@@ -50,18 +50,18 @@ founding_page v = record { mode = Normal; top = record { 0 = 0 }; mark = Some v.
 
 -- a founded replica is up and idle, a member with the set as its survivors
 abbrev pub founding_row : View → ℕ → Row
-founding_row v r = record { up = true; lost = nobody_set; survivors = cond (has v.set.0 r) v.set nobody_set; stage = Idle }
+founding_row v r = record { up = true; lost = nobody_set; survivors = if has v.set.0 r then v.set else nobody_set; stage = Idle }
 
 -- the pages of a floor founded with v: below n, members have the first view; all others are as they were
 abbrev pub FoundedPages : View → List Page → ℕ → List Page → Type 0
-FoundedPages v before n after = (r : ℕ) → r < 16 → page_at after r ≡ cond (has v.set.0 r && nat_lt r n) (founding_page v) (page_at before r)
+FoundedPages v before n after = (r : ℕ) → r < 16 → page_at after r ≡ (if has v.set.0 r && nat_lt r n then founding_page v else page_at before r)
 
 abbrev pub FoundedRows : View → List Row → Type 0
 FoundedRows v rows = (r : ℕ) → r < 16 → row_at rows r ≡ founding_row v r
 
 -- what a founding leaves: members have the first view and no other page is touched, all fresh before; rows, need and post
 pub record Founding (v : View) (need : Need) (pages : List Page) (rows : List Row) (needed : Need) (post : List Message) : Type 0 where
-  pub pages_are : (r : ℕ) → r < 16 → page_at pages r ≡ cond (has v.set.0 r) (founding_page v) fresh
+  pub pages_are : (r : ℕ) → r < 16 → page_at pages r ≡ (if has v.set.0 r then founding_page v else fresh)
   pub rows_are : FoundedRows v rows
   pub need_is : needed ≡ need
   pub silent : post ≡ []

@@ -1,5 +1,5 @@
 -- The floor's calls: what each does to pages, rows and post, or why it is refused. Assumes nothing.
-use Rattle.std.specs.Prelude.{◌≡◌, ℕ, ◌<◌, Bool, true, false, cond, not, ◌⊎◌, List, [], ◌∷◌, ◌++◌, length, Some, None, Ok, Err, Option, Result, ◌==◌, nat_le, nat_lt, slice_index_or, slice_set}
+use Rattle.std.specs.Prelude.{◌≡◌, ℕ, ◌<◌, Bool, true, false, if◌then◌else◌, not, ◌⊎◌, List, [], ◌∷◌, ◌++◌, length, Some, None, Ok, Err, Option, Result, ◌==◌, nat_le, nat_lt, slice_index_or, slice_set}
 use Rattle.std.specs.Option.{option_or}
 use Rattle.quorum.specs.declared.fault.Failure.{Failure}
 use Rattle.quorum.specs.declared.fault.Failure.TheVariants.{Refused, NoMemory}
@@ -58,7 +58,7 @@ unless (Some fault) rest = Err fault
 
 -- the message at an index of the post
 abbrev pub message_at : List Message → ℕ → Option Message
-message_at post i = cond (nat_lt i (length post)) (Some (slice_index_or post i (record { sender = 0; head = head 0 0; body = Abort }))) None
+message_at post i = if nat_lt i (length post) then Some (slice_index_or post i (record { sender = 0; head = head 0 0; body = Abort })) else None
 
 -- a replica above 15; one that is down, or at a start up
 abbrev pub up_test : List Row → ℕ → Option Fault
@@ -104,7 +104,7 @@ module _ (f : ℕ → ℕ → Bool) (w : World) where
   -- the post's room and the store's place are asked for last
   abbrev pub placed : Work → Result Effect Fault → Result Effect Fault
   placed k (Err fault) = Err fault
-  placed k (Ok e) = unless (option_or (refused_if (full k) (floor_refusal PostFull (replica_of k))) (cond (w.places == 0) (Some (no_place (replica_of k))) None)) (Ok e)
+  placed k (Ok e) = unless (option_or (refused_if (full k) (floor_refusal PostFull (replica_of k))) (refused_if (w.places == 0) (no_place (replica_of k)))) (Ok e)
 
   unfoldable pub ruled : Work → Result Effect Fault
   ruled k = placed k (asked k)
