@@ -5,7 +5,7 @@ ghost use Rattle.stores.specs.Kept.{fresh};
 use super::show::End;
 use floor::Floor;
 use manager::{Answer, Need};
-use quorum::{ChosenRule, Failure, Fault, QuorumRule, Replica, WeightRule};
+use quorum::{ChosenRule, Failure, QuorumRule, Replica, WeightRule};
 use rows::{Message, Posts};
 use runs::Call;
 use script::{Command, parse};

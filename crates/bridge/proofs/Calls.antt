@@ -10,7 +10,7 @@ use Rattle.rows.specs.Rows.{is_normal}
 use Rattle.rows.specs.declared.message.Message.{Message}
 use Rattle.rows.specs.declared.row.Row.{Row}
 use Rattle.rows.specs.declared.row.Stage.{Stage}
-use Rattle.manager.specs.Calls.{head_of, view_refusal, delivery_refusal, loss_refusal, call_refusal, start_refusal, taking_up, losing, empty_row, started, following, viewed, heard_or_not, delivered_to, delivered, lost_at, stopped_at, started_at}
+use Rattle.manager.specs.Calls.{head_of, view_refusal, delivery_refusal, loss_refusal, call_refusal, start_refusal, taking_up, losing, started, following, viewed, heard_or_not, delivered_to, delivered, lost_at, stopped_at, started_at}
 use Rattle.manager.specs.Effects.{Effect, effect, in_mode, in_stage, judged_after_loss, without_recording}
 use Rattle.manager.specs.Hearing.{Turn, hears}
 use Rattle.manager.specs.Verdicts.{verdict_of}
@@ -32,6 +32,7 @@ use Rattle.bridge.proofs.Judged.{loss_comes, verdict_comes}
 use Rattle.bridge.proofs.Options.{err_ok, ok_inj}
 use Rattle.manager.proofs.Posted.{carried_posts}
 use Rattle.bridge.proofs.TakenUp.{taking_goes}
+use Rattle.rows.specs.Rows.{empty_row}
 
 -- what a message of the post says is in what the moves see of it
 seen_in : (m : Message) (post : List Message) → In m post → (y : Moves.Message) → In y (seen_message m) → In y (seen_post post)

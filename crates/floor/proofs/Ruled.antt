@@ -8,7 +8,7 @@ use Rattle.quorum.specs.declared.fault.Failure.TheVariants.{Refused, NoMemory}
 use Rattle.quorum.specs.declared.fault.Fault.{Fault}
 use Rattle.quorum.specs.declared.fault.Reason.TheVariants.{PostFull}
 use Rattle.quorum.specs.Faults.{refused_if}
-use Rattle.manager.specs.Calls.{answer_of, page_left, row_left, stopped_at, empty_row}
+use Rattle.manager.specs.Calls.{answer_of, page_left, row_left, stopped_at}
 use Rattle.manager.specs.Effects.{Effect}
 use Rattle.manager.specs.declared.answer.Answer.{Answer}
 use Rattle.manager.specs.declared.need.Need.{Need}
@@ -24,10 +24,12 @@ use Rattle.runs.specs.declared.work.Work.TheVariants as works
 use Rattle.stores.specs.Kept.{no_place}
 use Rattle.stores.specs.declared.page.Page.{Page}
 use Rattle.floor.specs.Parts.{crowded, Ready, Stored, PutBack, Tested}
-use Rattle.floor.specs.Tasks.{managed, lent, given, delivery_task, tasked, wants_room}
+use Rattle.floor.specs.Tasks.{managed, lent, delivery_task, tasked, wants_room}
 use Rattle.floor.specs.declared.accepted.Accepted.{Accepted}
 use Rattle.floor.specs.declared.task.Task.{Task}
 use Rattle.floor.specs.declared.task.Task.TheVariants as tasks
+use Rattle.quorum.specs.Faults.{given}
+use Rattle.rows.specs.Rows.{empty_row}
 
 -- ---- the floor's part
 given_ok : {A : Type 0} (o : Option Fault) (a b : A) → Ok b ≡ given o a → ((rest : Result Effect Fault) → unless o rest ≡ rest) × (b ≡ a)

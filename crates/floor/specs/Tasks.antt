@@ -14,6 +14,7 @@ use Rattle.runs.specs.declared.work.Work.TheVariants as works
 use Rattle.stores.specs.declared.page.Page.{Page}
 use Rattle.floor.specs.declared.task.Task.{Task}
 use Rattle.floor.specs.declared.task.Task.TheVariants as tasks
+use Rattle.quorum.specs.Faults.{given}
 
 -- what the manager makes of a task
 abbrev pub managed : (ℕ → ℕ → Bool) → Need → ℕ → Page → Row → Task → Result Effect Fault
@@ -26,11 +27,6 @@ managed f need r p w tasks.Stop = stopped_at r p w
 -- the same of the row of replica r
 abbrev pub lent : (ℕ → ℕ → Bool) → Need → List Row → ℕ → Page → Task → Result Effect Fault
 lent f need rows r p t = managed f need r p (row_at rows r) t
-
--- refused, or this
-abbrev pub given : {A : Type 0} → Option Fault → A → Result A Fault
-given None a = Ok a
-given (Some fault) a = Err fault
 
 -- the message, if there is one
 abbrev pub delivery_task : ℕ → Option Fault → Option Message → Result (ℕ × Task) Fault

@@ -3,7 +3,8 @@ ghost use Rattle.std.specs.Prelude.{◌≡◌, nat_le};
 ghost use Rattle.quorum.specs.Faults.{refused_if};
 ghost use Rattle.quorum.specs.declared.fault.Reason.TheVariants.{NoSuchReplica};
 ghost use Rattle.runs.specs.World.{floor_refusal, message_at, up_test, down_test, loss_test, delivery_test};
-ghost use Rattle.floor.specs.Tasks.{given, delivery_task, tasked};
+ghost use Rattle.floor.specs.Tasks.{delivery_task, tasked};
+ghost use Rattle.quorum.specs.Faults.{given};
 
 use super::floor::Floor;
 use super::task::Task;

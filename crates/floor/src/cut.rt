@@ -7,11 +7,11 @@ ghost use Rattle.floor.specs.Parts.{as_failure, PutBack, Tested, Torn};
 ghost use Rattle.floor.specs.Worlds.{world};
 
 use super::accepted::Accepted;
-use super::floor::{Floor, down_row};
+use super::floor::Floor;
 use super::task::Task;
 use manager::Answer;
 use quorum::{Failure, Fault, QuorumRule};
-use rows::Message;
+use rows::{Message, Row};
 use runs::Work;
 use stores::{Breakable, Store};
 
@@ -47,7 +47,7 @@ impl<R: QuorumRule + Copy, S: Breakable + Drop> Floor<R, S> {
     {
         match self.cut_page(post, accepted, n) {
             Ok(()) => {
-                self.put_back(accepted.kept.replica, down_row());
+                self.put_back(accepted.kept.replica, Row::empty(false));
                 Ok(())
             }
             Err(fault) => {

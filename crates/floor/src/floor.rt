@@ -1,11 +1,11 @@
 // The floor: a rule, a store, sixteen rows and the need.
 ghost use Rattle.std.specs.Prelude.{◌≡◌, false, replicate, if◌then◌else◌, Some, None, OnErr, OnOk, nat_lt};
-ghost use Rattle.manager.specs.Calls.{empty_row};
 ghost use Rattle.runs.specs.Runs.{Founded};
 ghost use Rattle.stores.specs.Kept.{page_at};
 ghost use Rattle.runs.specs.Founding.{row_at, founding_refusal, Founding};
 ghost use Rattle.quorum.specs.Faults.{allowed};
 ghost use Rattle.floor.specs.Worlds.{world};
+ghost use Rattle.rows.specs.Rows.{empty_row};
 
 use super::founding::{check_founding, founding_rows, write_founding};
 use lend::Table;
@@ -22,18 +22,6 @@ pub struct Floor<R, S> {
     pub(crate) need: Need,
 }
 
-// A row that is down and empty.
-pub(crate) fn down_row() -> Row
-    ensures { result ≡ empty_row false }
-{
-    Row {
-        up: false,
-        lost: ReplicaSet::EMPTY,
-        survivors: ReplicaSet::EMPTY,
-        stage: Stage::Idle,
-    }
-}
-
 impl<R: QuorumRule + Copy, S: Breakable + Drop> Floor<R, S> {
     // A new floor: all rows down and empty, need one.
     pub fn new(rule: R, store: S) -> Floor<R, S>
@@ -45,7 +33,7 @@ impl<R: QuorumRule + Copy, S: Breakable + Drop> Floor<R, S> {
         Floor {
             rule,
             store,
-            table: Table::new([down_row(); 16]),
+            table: Table::new([Row::empty(false); 16]),
             need: Need::One,
         }
     }

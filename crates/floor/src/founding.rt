@@ -6,7 +6,7 @@ ghost use Rattle.runs.specs.Founding.{is_fresh, founding_refusal, founding_page,
 ghost use Rattle.quorum.specs.Faults.{allowed};
 
 use quorum::{Fault, Layer, Reason, Replica, ReplicaSet, refuse_if};
-use rows::{Row, Stage};
+use rows::Row;
 use stores::{KeptPage, Mode, Number, Page, Stamp, Store, View};
 
 // The page of a replica that has done nothing yet.
@@ -57,10 +57,8 @@ fn founding_row(view: View, replica: Replica) -> Row
         ReplicaSet::EMPTY
     };
     Row {
-        up: true,
-        lost: ReplicaSet::EMPTY,
         survivors,
-        stage: Stage::Idle,
+        ..Row::empty(true)
     }
 }
 
@@ -71,7 +69,7 @@ pub(crate) fn founding_rows(view: View) -> [Row; 16]
     Replica::all().map(|replica| founding_row(view, replica))
 }
 
-// Writes the members' pages, lowest replica first. With sixteen places no write is refused.
+// Writes the members' pages, lowest replica first, in a loop over all sixteen, since the contract speaks of each of the sixteen pages. With sixteen places no write is refused.
 pub(crate) fn write_founding<S: Store>(store: &mut S, view: View) -> Result<(), Fault>
     requires number { view.number.0 ≤ 1000000000 }
     requires places { 16 ≤ S.places store.old }

@@ -19,7 +19,7 @@ use Rattle.stores.specs.declared.page.Mode.{Mode}
 use Rattle.stores.specs.declared.page.Mode.TheVariants.{Waiting, Joining, Normal, Reconfiguration}
 use Rattle.stores.specs.declared.page.Page.{Page}
 use Rattle.stores.specs.declared.view.Head.{Head}
-use Rattle.manager.specs.Calls.{head_of, report_message, following, losing, empty_row, started, call_refusal, view_refusal, delivery_refusal, loss_refusal, start_refusal, taking_up, viewed, heard_or_not, delivered_to, delivered, lost_at, stopped_at, started_at, page_left, row_left}
+use Rattle.manager.specs.Calls.{head_of, report_message, following, losing, started, call_refusal, view_refusal, delivery_refusal, loss_refusal, start_refusal, taking_up, viewed, heard_or_not, delivered_to, delivered, lost_at, stopped_at, started_at, page_left, row_left}
 use Rattle.manager.specs.Effects.{Effect, effect, in_mode, in_stage, judged_after_loss, without_recording}
 use Rattle.manager.specs.Hearing.{Turn, hears}
 use Rattle.manager.specs.Verdicts.{verdict_of}
@@ -31,11 +31,13 @@ use Rattle.manager.proofs.Accepted.{accepted, Offered, called, announced, arrive
 use Rattle.laws.proofs.Hearing.{HearingKeeps, HeardKeeps, heard_keeps}
 use Rattle.manager.proofs.Posted.{carried_posts}
 use Rattle.laws.proofs.Judged.{Stands, spares, closes}
-use Rattle.laws.proofs.Pages.{Tests, tests_of, of_tests, started_tests}
+use Rattle.laws.proofs.Pages.{started_tests}
 use Rattle.laws.proofs.Recording.{judges, judges_loss}
 use Rattle.rows.proofs.Facts.{row_parts, row_from}
 use Rattle.laws.proofs.Rows.{down_keeps, up_keeps}
 use Rattle.laws.proofs.TakingUp.{advances_itself, takes_up}
+use Rattle.rows.specs.Rows.{empty_row}
+use Rattle.stores.proofs.Kept.{Tests, of_tests, tests_of}
 
 -- ---- a view is taken up
 pub viewed_lawful : (f : ℕ → ℕ → Bool) (need : Need) (r : ℕ) (p : Page) (w : Row) (h : Head) (e : Effect) → viewed f need r p w h ≡ Ok e → Lawful r (Some h) p e

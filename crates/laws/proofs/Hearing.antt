@@ -34,10 +34,11 @@ use Rattle.manager.specs.Calls.{head_of, report_message}
 use Rattle.manager.specs.Hearing.{Turn, heard_if, turned, one_above, as_recorded, as_component, reaches_mark, as_reference, fixed, gathered_state, gathered_recorded, gathered_answer, hears_gathering, confirmed_recorded, confirmed_answer, hears_confirming, applied_state, applied_join, hears_applying, entered_recorded, hears_entering, outdoes, hears_round, hears_stage, hears}
 use Rattle.manager.specs.declared.hearing.Hearing.{Hearing}
 use Rattle.manager.specs.declared.hearing.Hearing.TheVariants.{Heard, Answered, Outdone, Aborted}
-use Rattle.laws.proofs.Pages.{Tests, of_tests, reported_tests}
+use Rattle.laws.proofs.Pages.{reported_tests}
 use Rattle.rows.proofs.Facts.{GatheringFacts, gathering_from, gathering_back, ConfirmingFacts, confirming_from, confirming_back, ApplyingFacts, applying_from, applying_back, EnteringFacts, entering_from, entering_back, RoundFacts, round_from, round_back, mode_normal, mode_waiting}
 use Rattle.laws.proofs.Subsets.{within_added, within_less, recorders_added}
 use Rattle.rounds.specs.Reports.{report_of}
+use Rattle.stores.proofs.Kept.{Tests, of_tests}
 
 -- a report more, of a member of the head
 pub one_more : (h : Head) (q : ℕ) (rs : List (Option Report)) (m : Report) → has h.set.0 q ≡ true → report_keeps q h m ≡ true →

@@ -29,10 +29,11 @@ use Rattle.manager.specs.declared.need.Need.{Need}
 use Rattle.manager.specs.declared.verdict.Verdict.{Verdict}
 use Rattle.manager.specs.declared.verdict.Verdict.TheVariants.{Stays, Records, Installs, Reconfigures, Closes, Forgets, Ends}
 use Rattle.laws.specs.Laws.{PostsKeep, NotLower, Advances, Lawful, last_of, WithoutReplica}
-use Rattle.laws.proofs.Pages.{Tests, of_tests, installed_tests, settled_tests, spare_tests, reconfigured_tests, has_view, joining_recorded, forgotten_tests}
+use Rattle.laws.proofs.Pages.{installed_tests, settled_tests, spare_tests, reconfigured_tests, has_view, joining_recorded, forgotten_tests}
 use Rattle.rows.proofs.Facts.{row_parts, GatheringFacts, gathering_from, ConfirmingFacts, confirming_from, applying_from, entering_from, round_from, mode_normal, mode_waiting, mode_joining, mode_reconfiguration}
 use Rattle.laws.proofs.Rows.{closed_keeps, component_keeps, spare_keeps}
 use Rattle.laws.proofs.Settled.{Numbered, end_numbered}
+use Rattle.stores.proofs.Kept.{Tests, of_tests}
 
 -- ---- what a verdict rests on, of the head and page that are judged
 abbrev pub Fits : Option Head → Page → Verdict → Type 0

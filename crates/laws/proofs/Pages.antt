@@ -16,24 +16,7 @@ use Rattle.stores.specs.declared.view.View.{View}
 use Rattle.manager.specs.Calls.{topped, started}
 use Rattle.manager.specs.Effects.{in_mode, raised, recording, component_page, spare_page}
 use Rattle.rounds.specs.Reports.{report_of}
-
--- the five tests of a page
-pub record Tests (r : ℕ) (p : Page) : Type 0 where
-  pub mode : mode_fits p.mode (is_some p.component) (is_some p.recorded) ≡ true
-  pub mark : mark_fits p.mark ≡ true
-  pub component : component_fits r p.mark p.component ≡ true
-  pub recorded : recorded_fits r p.top.0 p.mark p.recorded ≡ true
-  pub follow : numbers_follow p.component p.recorded ≡ true
-
-pub tests_of : (r : ℕ) (p : Page) → keeps_rules r p ≡ true → Tests r p
-unfolding keeps_rules
-tests_of r p h =
-    let a = and_parts _ _ h in let b = and_parts _ _ a.0 in let c = and_parts _ _ b.0 in let d = and_parts _ _ c.0 in
-    record { mode = d.0; mark = d.1; component = c.1; recorded = b.1; follow = a.1 }
-
-pub of_tests : (r : ℕ) (p : Page) → Tests r p → keeps_rules r p ≡ true
-unfolding keeps_rules
-of_tests r p t = and_from _ _ (and_from _ _ (and_from _ _ (and_from _ _ t.mode t.mark) t.component) t.recorded) t.follow
+use Rattle.stores.proofs.Kept.{Tests, tests_of, of_tests}
 
 -- ---- marks raised
 raised_fits : (m : Option Number) (n : ℕ) → mark_fits m ≡ true → n ≤ 1000000000 → mark_fits (Some (raised m n)) ≡ true

@@ -8,10 +8,10 @@ use Rattle.rows.specs.declared.row.Row.{Row}
 use Rattle.stores.specs.declared.page.Mode.{Mode}
 use Rattle.stores.specs.declared.page.Page.{Page}
 use Rattle.stores.specs.declared.view.View.{View}
-use Rattle.manager.specs.Calls.{empty_row}
 use Rattle.manager.specs.Effects.{closed, component_row, spare_row}
 use Rattle.laws.proofs.Subsets.{within_itself, within_none}
 use Rattle.rows.proofs.Facts.{row_from}
+use Rattle.rows.specs.Rows.{empty_row}
 
 -- ---- rows with the head closed
 idle_from : (up : Bool) (lost : ReplicaSet) (m : Mode) → lost.0 ≡ 0 → is_joining m ≡ false → idle_keeps up lost m ≡ true

@@ -33,11 +33,12 @@ use Rattle.laws.specs.Laws.{NotLower, Advances, Lawful}
 use Rattle.laws.proofs.Hearing.{one_more, report_kept, report_told}
 use Rattle.laws.proofs.Judged.{Stands, verdict_fits, carried}
 use Rattle.manager.proofs.Accepted.{Announced}
-use Rattle.laws.proofs.Pages.{Tests, of_tests, topped_tests, reconfigured_tests, has_view, tests_of}
+use Rattle.laws.proofs.Pages.{topped_tests, reconfigured_tests, has_view}
 use Rattle.laws.proofs.Recording.{Told, posts_keep, entry_stands, again, judges}
 use Rattle.rows.proofs.Facts.{row_parts, row_from, gathering_back, applying_back, round_back}
 use Rattle.laws.proofs.Subsets.{within_itself, within_none, within_alone, within_less, within_first, within_second, recorders_none}
 use Rattle.rounds.specs.Reports.{report_of}
+use Rattle.stores.proofs.Kept.{Tests, of_tests, tests_of}
 
 -- a page is not behind itself
 same_mark : (m : Option Number) → NotLower m m

@@ -15,9 +15,10 @@ use Rattle.rows.specs.Messages.{message_keeps}
 use Rattle.rows.specs.Rows.{is_normal, row_keeps}
 use Rattle.rows.specs.declared.message.Message.{Message}
 use Rattle.rows.specs.declared.row.Row.{Row}
-use Rattle.manager.specs.Calls.{unless_refused, refusal, all_keep, offer_refusal, call_refusal, head_of, at_highest, announcement_refusal, view_refusal, message_refusal, head_refusal, delivery_refusal, party_refusal, lost_refusal, loss_refusal, start_refusal}
+use Rattle.manager.specs.Calls.{refusal, all_keep, offer_refusal, call_refusal, head_of, at_highest, announcement_refusal, view_refusal, message_refusal, head_refusal, delivery_refusal, party_refusal, lost_refusal, loss_refusal, start_refusal}
+use Rattle.quorum.specs.Faults.{given}
 
-pub accepted : {A : Type 0} (o : Option Fault) (x y : A) → unless_refused o x ≡ Ok y → (o ≡ None) × (x ≡ y)
+pub accepted : {A : Type 0} (o : Option Fault) (x y : A) → given o x ≡ Ok y → (o ≡ None) × (x ≡ y)
 accepted None x y e = (refl, cc)
 accepted (Some fault) x y e = absurd cc
 

@@ -31,11 +31,14 @@ use Rattle.manager.specs.declared.answer.Answer.{Answer}
 use Rattle.manager.specs.declared.hearing.Hearing.{Hearing}
 use Rattle.manager.specs.declared.hearing.Hearing.TheVariants.{Heard, Answered, Outdone, Aborted}
 use Rattle.manager.specs.declared.need.Need.{Need}
-use Rattle.manager.specs.Effects.{Effect, effect, ending, nobody_set, in_mode, in_stage, closed, spare_page, spare_row, carried_out, posts_of, entry_of, judged, judged_again, judged_after_loss}
+use Rattle.manager.specs.Effects.{Effect, effect, ending, in_mode, in_stage, closed, spare_page, spare_row, carried_out, posts_of, entry_of, judged, judged_again, judged_after_loss}
 use Rattle.manager.specs.Hearing.{Turn, hears}
 use Rattle.manager.specs.Verdicts.{verdict_of}
 use Rattle.quorum.specs.Faults.{refused_at, refused_if}
 use Rattle.rounds.specs.Reports.{report_of}
+use Rattle.quorum.specs.Faults.{given}
+use Rattle.rows.specs.Rows.{empty_row}
+use Rattle.rows.specs.Rows.{nobody_set}
 
 -- ---- refusals
 -- a refusal of the manager, naming the replica
@@ -45,11 +48,6 @@ refusal reason r = refused_at Manager reason r
 -- the first that applies
 abbrev pub first_of : Option Fault → Option Fault → Option Fault
 first_of a b = option_or a b
-
--- what is found or done, unless it is refused
-abbrev pub unless_refused : {A : Type 0} → Option Fault → A → Result A Fault
-unless_refused None a = Ok a
-unless_refused (Some fault) a = Err fault
 
 -- page and row keep the rules
 abbrev pub all_keep : ℕ → Page → Row → Bool
@@ -190,10 +188,6 @@ following f need r p w h Aborted = effect p (closed w) Nothing
 abbrev pub losing : Row → ℕ → Row
 losing w q = record w { lost = adding w.lost q }
 
--- down, or up, and empty
-abbrev pub empty_row : Bool → Row
-empty_row up = record { up = up; lost = nobody_set; survivors = nobody_set; stage = Idle }
-
 -- a start turns normal and joining into reconfiguration
 abbrev pub started : Mode → Mode
 started Waiting = Waiting
@@ -204,7 +198,7 @@ started Reconfiguration = Reconfiguration
 -- ---- the calls
 -- a view is taken up
 unfoldable pub viewed : (ℕ → ℕ → Bool) → Need → ℕ → Page → Row → Head → Result Effect Fault
-viewed f need r p w h = unless_refused (view_refusal r p w h) (taking_up f need r p w h)
+viewed f need r p w h = given (view_refusal r p w h) (taking_up f need r p w h)
 
 abbrev pub heard_or_not : (ℕ → ℕ → Bool) → Need → ℕ → Page → Row → Head → Result (Turn Stage) Reason → Result Effect Fault
 heard_or_not f need r p w h (Err reason) = Err (refusal reason r)
@@ -220,15 +214,15 @@ delivered f need r p w m = delivered_to f need r p w m (delivery_refusal r p w m
 
 -- a replica of the head is lost
 unfoldable pub lost_at : (ℕ → ℕ → Bool) → Need → ℕ → Page → Row → ℕ → Result Effect Fault
-lost_at f need r p w q = unless_refused (loss_refusal r p w q) (judged_after_loss f need r p (losing w q))
+lost_at f need r p w q = given (loss_refusal r p w q) (judged_after_loss f need r p (losing w q))
 
 -- a replica stops
 unfoldable pub stopped_at : ℕ → Page → Row → Result Effect Fault
-stopped_at r p w = unless_refused (call_refusal r p w) (effect p (empty_row false) Nothing)
+stopped_at r p w = given (call_refusal r p w) (effect p (empty_row false) Nothing)
 
 -- a replica starts
 unfoldable pub started_at : ℕ → Page → Row → Result Effect Fault
-started_at r p w = unless_refused (start_refusal r p w) (effect (in_mode (started p.mode) p) (empty_row true) Nothing)
+started_at r p w = given (start_refusal r p w) (effect (in_mode (started p.mode) p) (empty_row true) Nothing)
 
 -- ---- what is answered and left
 abbrev pub answer_of : Result Effect Fault → Result Answer Fault

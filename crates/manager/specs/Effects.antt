@@ -28,6 +28,7 @@ use Rattle.rows.specs.declared.row.Stage.TheVariants.{Idle, Gathering, Confirmin
 use Rattle.manager.specs.declared.verdict.Verdict.{Verdict}
 use Rattle.manager.specs.declared.verdict.Verdict.TheVariants.{Stays, Records, Installs, Reconfigures, Closes, Forgets, Ends}
 use Rattle.manager.specs.Verdicts.{verdict_of}
+use Rattle.rows.specs.Rows.{nobody_set}
 
 -- what an accepted call leaves and answers
 pub record Effect : Type 0 where
@@ -43,9 +44,6 @@ abbrev pub ending : Page → Row → Posts → Outcome → Option View → Effec
 ending p w posts o v = record { page = p; row = w; answer = record { posts = posts; ended = Some (o, v) } }
 
 -- ---- pages and rows
-abbrev pub nobody_set : ReplicaSet
-nobody_set = record { 0 = 0 }
-
 abbrev pub in_mode : Mode → Page → Page
 in_mode m p = record p { mode = m }
 

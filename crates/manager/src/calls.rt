@@ -1,9 +1,10 @@
 // The calls of a host, each on one page and one row. Any argument is allowed: a call does its work or is refused, and
 // then page and row are as they were.
 ghost use Rattle.std.specs.Prelude.{◌≡◌};
-ghost use Rattle.manager.specs.Calls.{following, heard_or_not, losing, empty_row, started, viewed, delivered, lost_at, stopped_at, started_at, answer_of, page_left, row_left};
+ghost use Rattle.manager.specs.Calls.{following, heard_or_not, losing, started, viewed, delivered, lost_at, stopped_at, started_at, answer_of, page_left, row_left};
 ghost use Rattle.manager.specs.Effects.{in_mode};
 ghost use Rattle.manager.specs.Hearing.{hears};
+ghost use Rattle.rows.specs.Rows.{empty_row};
 
 use super::answer::Answer;
 use super::effect::{close, spare};
@@ -139,16 +140,6 @@ pub fn lose<R: QuorumRule>(
     Ok(terms.judge_loss(page, row))
 }
 
-// A row that is up or down and empty.
-fn empty(row: &mut Row, up: bool)
-    ensures { row.new ≡ empty_row up }
-{
-    row.up = up;
-    row.lost = ReplicaSet::EMPTY;
-    row.survivors = ReplicaSet::EMPTY;
-    row.stage = Stage::Idle;
-}
-
 // The replica stops: its row is down and empty, its page as it was.
 #[tactic(auto, unfolding(crate::specs::Calls::stopped_at))]
 pub fn stop(replica: u8, page: &Page, row: &mut Row) -> Result<Answer, Fault>
@@ -157,7 +148,7 @@ pub fn stop(replica: u8, page: &Page, row: &mut Row) -> Result<Answer, Fault>
     ensures row { row.new ≡ row_left row.old (stopped_at replica page.now row.old) }
 {
     check_call(replica, page, row)?;
-    empty(row, false);
+    *row = Row::empty(false);
     Ok(Answer::quiet())
 }
 
@@ -180,6 +171,6 @@ pub fn start(replica: u8, page: &mut Page, row: &mut Row) -> Result<Answer, Faul
 {
     check_start(replica, page, row)?;
     turn_mode(page);
-    empty(row, true);
+    *row = Row::empty(true);
     Ok(Answer::quiet())
 }

@@ -126,6 +126,17 @@ pub(crate) fn posts_of(first: Option<Message>, second: Option<Message>) -> Posts
     }
 }
 
+// What a replica tells under its head.
+pub(crate) fn message(replica: Replica, head: Head, body: Body) -> Message
+    ensures { result ≡ record { sender = replica; head = head; body = body } }
+{
+    Message {
+        sender: replica.number(),
+        head,
+        body,
+    }
+}
+
 // Sets the recorded view, raises the mark to it, and gives the message that tells of it.
 fn write_entry(replica: Replica, page: &mut Page, head: Head, number: Number, part: Part) -> Message
     ensures message { result ≡ recorded_message replica head number.0 part }
@@ -139,11 +150,7 @@ fn write_entry(replica: Replica, page: &mut Page, head: Head, number: Number, pa
         },
         stamp: head.stamp,
     });
-    Message {
-        sender: replica.number(),
-        head,
-        body: Body::Recorded(number, part),
-    }
+    message(replica, head, Body::Recorded(number, part))
 }
 
 // The number after one; the highest has none.

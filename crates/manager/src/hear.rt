@@ -153,6 +153,7 @@ fn hear_gathering(
     }
 }
 
+// The arm of a Report is gathering's too: a function for both would be given the flag and the mode, and is no plainer.
 #[tactic(auto, using(crate::proofs::Turns::heard_answers))]
 fn hear_confirming(
     page: &Page,

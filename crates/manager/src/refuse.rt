@@ -1,7 +1,8 @@
 // Why a call is turned down: the earliest that applies is given.
 ghost use Rattle.std.specs.Prelude.{◌≡◌, ◌<◌, OnOk};
-ghost use Rattle.manager.specs.Calls.{unless_refused, offer_refusal, call_refusal, head_of, at_highest, announcement_refusal, view_refusal, message_refusal, head_refusal, delivery_refusal, party_refusal, lost_refusal, loss_refusal, start_refusal};
+ghost use Rattle.manager.specs.Calls.{offer_refusal, call_refusal, head_of, at_highest, announcement_refusal, view_refusal, message_refusal, head_refusal, delivery_refusal, party_refusal, lost_refusal, loss_refusal, start_refusal};
 ghost use Rattle.quorum.specs.Faults.{allowed};
+ghost use Rattle.quorum.specs.Faults.{given};
 
 use quorum::{Fault, Layer, Reason, Replica, refuse_if};
 use rows::{Message, Row, Stage};
@@ -9,7 +10,7 @@ use stores::{Head, Mode, Number, Page, View};
 
 // Page and row keep the rules, and the replica is one of the sixteen.
 pub(crate) fn check_offer(replica: u8, page: &Page, row: &Row) -> Result<Replica, Fault>
-    ensures { result ≡ unless_refused (offer_refusal replica page.now row.now) replica }
+    ensures { result ≡ given (offer_refusal replica page.now row.now) replica }
 {
     let kept = page.keeps_rules(replica) && row.keeps_rules(replica, page);
     refuse_if(!kept, Reason::AgainstRules.at(replica, Layer::Manager))?;
@@ -17,7 +18,7 @@ pub(crate) fn check_offer(replica: u8, page: &Page, row: &Row) -> Result<Replica
 }
 
 pub(crate) fn check_call(replica: u8, page: &Page, row: &Row) -> Result<Replica, Fault>
-    ensures { result ≡ unless_refused (call_refusal replica page.now row.now) replica }
+    ensures { result ≡ given (call_refusal replica page.now row.now) replica }
 {
     let found = check_offer(replica, page, row)?;
     refuse_if(!row.up, Reason::WrongPower.at(replica, Layer::Manager))?;
@@ -68,7 +69,7 @@ fn check_announcement(replica: u8, page: &Page, row: &Row, head: Head) -> Result
 
 #[tactic(auto, unfolding(crate::specs::Calls::view_refusal))]
 pub(crate) fn check_view(replica: u8, page: &Page, row: &Row, head: Head) -> Result<Replica, Fault>
-    ensures { result ≡ unless_refused (view_refusal replica page.now row.now head) replica }
+    ensures { result ≡ given (view_refusal replica page.now row.now head) replica }
 {
     let found = check_call(replica, page, row)?;
     check_announcement(replica, page, row, head)?;
@@ -108,7 +109,7 @@ pub(crate) fn check_delivery(
     row: &Row,
     message: &Message,
 ) -> Result<(Replica, Replica), Fault>
-    ensures { result ≡ unless_refused (delivery_refusal replica page.now row.now message.now) (replica, message.now.sender) }
+    ensures { result ≡ given (delivery_refusal replica page.now row.now message.now) (replica, message.now.sender) }
 {
     check_message(replica, message)?;
     let found = check_call(replica, page, row)?;
@@ -137,13 +138,14 @@ fn check_lost(replica: u8, row: &Row, lost: u8) -> Result<(), Fault>
 
 #[tactic(auto, unfolding(crate::specs::Calls::loss_refusal))]
 pub(crate) fn check_loss(replica: u8, page: &Page, row: &Row, lost: u8) -> Result<Replica, Fault>
-    ensures { result ≡ unless_refused (loss_refusal replica page.now row.now lost) replica }
+    ensures { result ≡ given (loss_refusal replica page.now row.now lost) replica }
 {
     let found = check_offer(replica, page, row)?;
     check_lost(replica, row, lost)?;
     Ok(found)
 }
 
+// As `check_call`, of a replica that is to be down: a flag for it at each call would be no plainer.
 #[tactic(auto, unfolding(crate::specs::Calls::start_refusal))]
 pub(crate) fn check_start(replica: u8, page: &Page, row: &Row) -> Result<(), Fault>
     ensures { result ≡ allowed (start_refusal replica page.now row.now) }

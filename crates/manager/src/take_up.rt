@@ -4,22 +4,12 @@ ghost use Rattle.manager.specs.Calls.{report_message, own_reports, beginning, th
 ghost use Rattle.manager.specs.Effects.{judged_again, entry_of};
 
 use super::answer::Answer;
-use super::effect::{carry_out, posts_of, record};
+use super::effect::{carry_out, message, posts_of, record};
 use super::terms::Terms;
 use quorum::{QuorumRule, Replica, ReplicaSet};
 use rounds::Report;
 use rows::{Applied, Body, Gathered, Message, Recorders, Row, Stage};
 use stores::{Head, Mode, Page, View};
-
-fn message(replica: Replica, head: Head, body: Body) -> Message
-    ensures { result ≡ record { sender = replica; head = head; body = body } }
-{
-    Message {
-        sender: replica.number(),
-        head,
-        body,
-    }
-}
 
 // The replica's own report under a head.
 pub(crate) fn report_message(replica: Replica, head: Head, page: &Page) -> Message

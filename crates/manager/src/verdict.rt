@@ -1,4 +1,4 @@
-// What judging a head comes to.
+// What judging a head comes to: a value and no closure, since the laws of the calls speak of it.
 use rounds::Outcome;
 use stores::View;
 

@@ -37,7 +37,11 @@ refused_by layer reason = record { reason = reason; replica = None; layer = laye
 abbrev pub refused_if : Bool → Fault → Option Fault
 refused_if b fault = if b then Some fault else None
 
--- let through, or refused
+-- refused, or this
+abbrev pub given : {A : Type 0} → Option Fault → A → Result A Fault
+given None a = Ok a
+given (Some fault) a = Err fault
+
+-- refused, or let through
 abbrev pub allowed : Option Fault → Result Unit Fault
-allowed None = Ok tt
-allowed (Some fault) = Err fault
+allowed o = given o tt

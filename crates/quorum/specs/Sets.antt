@@ -1,5 +1,5 @@
 -- Sets made from sets. Who is in each is said by its law in proofs/Sets; proofs use the laws. Assumes nothing.
-use Rattle.std.specs.Prelude.{ℕ, ◌-◌, ◌^◌, cond, bit_and, bit_or, nat_lt}
+use Rattle.std.specs.Prelude.{ℕ, ◌-◌, ◌^◌, if◌then◌else◌, bit_and, bit_or, nat_lt}
 
 -- the members of a and those of b
 unfoldable pub either : ℕ → ℕ → ℕ
@@ -15,4 +15,4 @@ less a b = bit_and a (65535 - b)
 
 -- replica r alone; nobody where there is no such replica
 unfoldable pub single : ℕ → ℕ
-single r = cond (nat_lt r 16) (2 ^ r) 0
+single r = if nat_lt r 16 then 2 ^ r else 0

@@ -90,6 +90,7 @@ impl ReplicaSet {
         self.0.count_ones()
     }
 
+    // A `for`: with `find` over the sixteen (tried) the proof did not close.
     pub fn lowest(self) -> Option<Replica>
         ensures { result ≡ lowest_of self.0 }
     {

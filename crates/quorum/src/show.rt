@@ -5,13 +5,12 @@ use std::fmt;
 impl fmt::Display for ReplicaSet {
     fn fmt<W: fmt::Write>(&self, f: &mut fmt::Formatter<W>) -> fmt::Result {
         f.write_str("{")?;
-        let mut later = false;
-        for replica in self.members() {
-            if later {
-                f.write_str(",")?;
-            }
-            write!(f, "{replica}")?;
-            later = true;
+        let mut members = self.members();
+        if let Some(first) = members.next() {
+            write!(f, "{first}")?;
+        }
+        for replica in members {
+            write!(f, ",{replica}")?;
         }
         f.write_str("}")
     }

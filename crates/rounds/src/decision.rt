@@ -10,6 +10,8 @@ use super::report::Report;
 use quorum::QuorumRule;
 use stores::{Head, View};
 
+// Rule, head and reports go through four functions: a struct would be made in the public one for three, which is no plainer.
+
 // Why nothing can be settled from the presumed view, if so.
 fn barred<R: QuorumRule>(
     rule: &R,
@@ -69,7 +71,7 @@ fn first_that_applies<R: QuorumRule>(
     clear_or_all(rule, head, reports, view)
 }
 
-// Outcome and settled view together, with what they rest on.
+// Outcome and settled view together, a pair that its caller takes apart (a rule of the project), with what they rest on.
 pub fn decide<R: QuorumRule>(
     rule: &R,
     head: Head,

@@ -7,7 +7,8 @@ use super::report::Report;
 use quorum::{QuorumRule, ReplicaSet};
 use stores::{Number, Recorded, View};
 
-// The members of the view whose reports say so.
+// The members of the view whose reports say so. The manager gathers whoever reported in a loop like this: one function for both
+// would be public and take a closure, so it would ask something of its callers, which no public function does.
 fn members_that<F: Fn(&Report) -> bool>(
     says: F,
     reports: &[Option<Report>; 16],

@@ -121,3 +121,11 @@ stage_keeps r p up lost (Round h rs) = round_keeps r p h rs
 
 unfoldable pub row_keeps : ℕ → Page → Row → Bool
 row_keeps r p w = survivors_keep w.survivors p.component && stage_keeps r p w.up w.lost w.stage
+
+-- nobody
+abbrev pub nobody_set : ReplicaSet
+nobody_set = record { 0 = 0 }
+
+-- a row that is down, or up, and empty
+abbrev pub empty_row : Bool → Row
+empty_row up = record { up = up; lost = nobody_set; survivors = nobody_set; stage = Idle }

@@ -1,6 +1,7 @@
 // What a replica is doing: its row.
 ghost use Rattle.std.specs.Prelude.{◌≡◌};
 ghost use Rattle.rows.specs.Recorders.{all_recorders, recorders_within, recorders_with};
+ghost use Rattle.rows.specs.Rows.{empty_row};
 
 use super::message::Part;
 use quorum::ReplicaSet;
@@ -108,4 +109,18 @@ pub struct Row {
     // Members of the component view that every view since has held.
     pub survivors: ReplicaSet,
     pub stage: Stage,
+}
+
+impl Row {
+    // A row that is up, or down, and empty.
+    pub fn empty(up: bool) -> Row
+        ensures { result ≡ empty_row up }
+    {
+        Row {
+            up,
+            lost: ReplicaSet::EMPTY,
+            survivors: ReplicaSet::EMPTY,
+            stage: Stage::Idle,
+        }
+    }
 }

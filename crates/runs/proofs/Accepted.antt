@@ -8,7 +8,7 @@ use Rattle.quorum.specs.declared.fault.Reason.TheVariants.{NoSuchReplica, WrongP
 use Rattle.bridge.proofs.Calls.{refines}
 use Rattle.bridge.specs.Refines.{MovesTo, CallsMove}
 use Rattle.bridge.specs.Seen.{seen_post, settlement_of, formed_by, node_of}
-use Rattle.manager.specs.Calls.{head_of, message_refusal, start_refusal, unless_refused, empty_row, started, viewed, lost_at, started_at}
+use Rattle.manager.specs.Calls.{head_of, message_refusal, start_refusal, started, viewed, lost_at, started_at}
 use Rattle.manager.specs.Effects.{Effect, effect, in_mode}
 use Rattle.rounds.specs.declared.outcome.Outcome.{Outcome}
 use Rattle.rows.specs.declared.message.Message.{Message}
@@ -30,6 +30,8 @@ use Rattle.runs.proofs.Answered.{ok_inj, err_ok, let_through}
 use Rattle.quorum.specs.Faults.{refused_if}
 use Rattle.quorum.proofs.Refused.{neither, one_of_sixteen}
 use Rattle.runs.specs.World.{floor_refusal}
+use Rattle.quorum.specs.Faults.{given}
+use Rattle.rows.specs.Rows.{empty_row}
 
 -- ---- the message that is delivered stands in the post
 got_in : {A : Type 0} (xs : List A) (i : ℕ) (d : A) → i < length xs → In (get_or xs i d) xs
@@ -45,7 +47,7 @@ in_post : (post : List Message) (i : ℕ) (m : Message) → message_at post i �
 in_post post i m e = there post i _ m (ltb i (length post)) refl e
 
 -- ---- a start ends no round
-quiet_start : (o : Option Fault) (p : Page) (e : Effect) → unless_refused o (effect p (empty_row true) Nothing) ≡ Ok e → e.answer.ended ≡ None
+quiet_start : (o : Option Fault) (p : Page) (e : Effect) → given o (effect p (empty_row true) Nothing) ≡ Ok e → e.answer.ended ≡ None
 quiet_start None p e i = ap (λ (x : Effect). x.answer.ended) (sym (ok_inj i))
 quiet_start (Some fault) p e i = absurd (err_ok i)
 

@@ -2,7 +2,6 @@
 use Rattle.std.proofs.Common.{◌≡◌, ℕ, ◌<◌, ◌≤◌, false, ◌≢◌, List, length, set, ap, ◌∙◌, arith, length-set}
 use Rattle.std.proofs.lemmas.List.{get_or-set_same, get_or-set_other, get_or_past}
 use Rattle.bridge.specs.Seen.{node_of, seen_post}
-use Rattle.manager.specs.Calls.{empty_row}
 use Rattle.rows.specs.declared.row.Row.{Row}
 use Rattle.safety.specs.Replicas.{Node}
 use Rattle.safety.specs.Runs as Moves
@@ -10,6 +9,7 @@ use Rattle.stores.specs.Kept.{fresh, page_at}
 use Rattle.stores.specs.declared.page.Page.{Page}
 use Rattle.runs.specs.Founding.{row_at}
 use Rattle.runs.specs.World.{World}
+use Rattle.rows.specs.Rows.{empty_row}
 
 -- the replica q of these pages and rows
 abbrev pub seen_at : List Page → List Row → ℕ → Node

@@ -7,7 +7,7 @@ use Rattle.quorum.specs.declared.fault.Reason.TheVariants.{NoSuchReplica, WrongP
 use Rattle.bridge.proofs.Down.{down_is}
 use Rattle.bridge.specs.Refines.{MovesTo}
 use Rattle.bridge.specs.Seen.{node_of, seen_post, formed_by, settlement_of}
-use Rattle.manager.specs.Calls.{empty_row, stopped_at}
+use Rattle.manager.specs.Calls.{stopped_at}
 use Rattle.manager.specs.Effects.{Effect}
 use Rattle.manager.specs.declared.answer.Answer.{Answer}
 use Rattle.safety.specs.Moves.{Settlement, settlement}
@@ -37,6 +37,7 @@ use Rattle.runs.proofs.Seen.{seen_at, world_of, Sixteen, both_here, both_others,
 use Rattle.quorum.specs.Faults.{refused_if}
 use Rattle.quorum.proofs.Refused.{neither, one_of_sixteen}
 use Rattle.runs.specs.World.{floor_refusal}
+use Rattle.rows.specs.Rows.{empty_row}
 
 abbrev taken : Call → Result Answer Failure → World → Taken
 taken call answer world = record { call = call; answer = answer; world = world }

@@ -7,8 +7,6 @@ use Rattle.quorum.specs.declared.fault.Fault.{Fault}
 use Rattle.quorum.specs.declared.fault.Layer.TheVariants.{Floor}
 use Rattle.quorum.specs.declared.fault.Reason.{Reason}
 use Rattle.quorum.specs.declared.fault.Reason.TheVariants.{BadFounding, NotFresh}
-use Rattle.manager.specs.Calls.{empty_row}
-use Rattle.manager.specs.Effects.{nobody_set}
 use Rattle.manager.specs.declared.need.Need.{Need}
 use Rattle.rows.specs.declared.message.Message.{Message}
 use Rattle.rows.specs.declared.row.Row.{Row}
@@ -19,6 +17,8 @@ use Rattle.stores.specs.declared.page.Mode.TheVariants.{Waiting, Joining, Normal
 use Rattle.stores.specs.declared.page.Page.{Page}
 use Rattle.stores.specs.declared.view.View.{View}
 use Rattle.quorum.specs.Faults.{refused_by, refused_if}
+use Rattle.rows.specs.Rows.{nobody_set}
+use Rattle.rows.specs.Rows.{empty_row}
 
 -- the row of replica r
 abbrev pub row_at : List Row → ℕ → Row

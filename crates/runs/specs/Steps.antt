@@ -3,7 +3,7 @@ use Rattle.std.specs.Prelude.{◌≡◌, ℕ, Bool, false, None, Ok, Err, Result
 use Rattle.quorum.specs.declared.fault.Failure.{Failure}
 use Rattle.quorum.specs.declared.fault.Failure.TheVariants.{Refused, NoMemory}
 use Rattle.quorum.specs.declared.fault.Fault.{Fault}
-use Rattle.manager.specs.Calls.{stopped_at, empty_row}
+use Rattle.manager.specs.Calls.{stopped_at}
 use Rattle.manager.specs.Effects.{Effect}
 use Rattle.manager.specs.declared.answer.Answer.{Answer}
 use Rattle.rows.specs.declared.message.Posts.TheVariants.{Nothing}
@@ -12,6 +12,7 @@ use Rattle.runs.specs.World.{replica_of}
 use Rattle.runs.specs.declared.work.Call.{Call}
 use Rattle.runs.specs.declared.work.Call.TheVariants.{Whole, Cut, Stop}
 use Rattle.runs.specs.declared.work.Work.{Work}
+use Rattle.rows.specs.Rows.{empty_row}
 
 -- nothing is posted, and no round ended
 abbrev pub quiet : Answer

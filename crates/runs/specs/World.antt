@@ -7,7 +7,7 @@ use Rattle.quorum.specs.declared.fault.Fault.{Fault}
 use Rattle.quorum.specs.declared.fault.Layer.TheVariants.{Floor}
 use Rattle.quorum.specs.declared.fault.Reason.{Reason}
 use Rattle.quorum.specs.declared.fault.Reason.TheVariants.{NoSuchReplica, WrongPower, NoSuchMessage, PostFull}
-use Rattle.manager.specs.Calls.{message_refusal, viewed, delivered, lost_at, started_at, empty_row}
+use Rattle.manager.specs.Calls.{message_refusal, viewed, delivered, lost_at, started_at}
 use Rattle.manager.specs.Effects.{Effect}
 use Rattle.manager.specs.declared.answer.Answer.{Answer}
 use Rattle.manager.specs.declared.need.Need.{Need}
@@ -25,6 +25,7 @@ use Rattle.runs.specs.declared.work.Call.TheVariants.{Whole, Cut, Stop}
 use Rattle.runs.specs.declared.work.Work.{Work}
 use Rattle.runs.specs.declared.work.Work.TheVariants.{View, Deliver, Loss, Start}
 use Rattle.quorum.specs.Faults.{refused_at, refused_if}
+use Rattle.rows.specs.Rows.{empty_row}
 
 -- all that a call sees and changes
 pub record World : Type 0 where
@@ -115,13 +116,7 @@ listed Nothing = []
 listed (One m) = m ∷ []
 listed (Two m n) = m ∷ n ∷ []
 
--- of a post that is full or not: room, no room, or no memory though there is room
-abbrev pub Roomed : Bool → ℕ → Result Unit Failure → Type 0
-Roomed full r (Ok _) = full ≡ false
-Roomed full r (Err (Refused fault)) = (full ≡ true) × (fault ≡ floor_refusal PostFull r)
-Roomed full r (Err NoMemory) = full ≡ false
-
--- the same with a place in the store asked for after it
+-- of a post that is full or not, and then of the store's places: done, refused by the first that lacks, or no memory though the post has room
 abbrev pub Posted : Bool → ℕ → ℕ → Result Unit Failure → Type 0
 Posted full places r (Ok _) = (full ≡ false) × (0 < places)
 Posted full places r (Err (Refused fault)) = ((full ≡ true) × (fault ≡ floor_refusal PostFull r)) ⊎ ((full ≡ false) × (places ≡ 0) × (fault ≡ no_place r))

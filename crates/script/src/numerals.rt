@@ -12,7 +12,7 @@ fn one_more(value: u64, byte: u8) -> Option<u64>
     value.checked_mul(10)?.checked_add(u64::from(byte - b'0'))
 }
 
-// The number that a word of decimal digits reads as, where 64 bits hold it.
+// The number that a word of decimal digits reads as, where 64 bits hold it. The library's parsing of text also takes a sign.
 pub fn number(word: &[u8]) -> Option<u64>
     ensures { result ≡ reads word.now }
 {

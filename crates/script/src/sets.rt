@@ -3,19 +3,15 @@ ghost use Rattle.std.specs.Prelude.{◌≡◌};
 ghost use Rattle.script.specs.Numerals.{reads};
 ghost use Rattle.script.specs.Sets.{with_replica, listed, set_of};
 
-use super::numerals::number;
-use quorum::ReplicaSet;
+use super::numerals::number8;
+use quorum::{Replica, ReplicaSet};
 
 // A set with the replica that a word names, 0 to 15.
 fn with_replica(set: ReplicaSet, word: &[u8]) -> Option<ReplicaSet>
     ensures { result ≡ with_replica set (reads word.now) }
 {
-    let value = number(word)?;
-    if value < 16 {
-        Some(set.with(value as u8))
-    } else {
-        None
-    }
+    let replica = Replica::new(number8(word)?)?;
+    Some(set.with(replica.number()))
 }
 
 // The set of the replicas that stand between the commas of a text; nobody where the text is empty.

@@ -14,7 +14,7 @@ use stores::{Number, View};
 pub enum Example {
     // By the count rule, whether the part carries the set.
     Count(ReplicaSet, ReplicaSet, bool),
-    // The same where replica 1 weighs 5 and each other 1.
+    // The same where replica 1 weighs 5 and each other 1. A case for each rule, as the table's lines name them.
     Weight(ReplicaSet, ReplicaSet, bool),
     // How the round ends, and the view that it settles on.
     Ends(Round, Outcome, Option<View>),

@@ -22,18 +22,18 @@ recorded_facts r top None s h e = absurd (grind (arith, nat_tests))
 recorded_facts r top (Some m) s h e = (grind (arith, nat_tests), grind (arith, nat_tests), (m, refl, grind (arith, nat_tests)), grind (arith, nat_tests), grind (arith, nat_tests))
 
 -- the five tests of a page
-record Tests (r : ℕ) (p : Page) : Type 0 where
-  mode : mode_fits p.mode (is_some p.component) (is_some p.recorded) ≡ true
-  mark : mark_fits p.mark ≡ true
-  component : component_fits r p.mark p.component ≡ true
-  recorded : recorded_fits r p.top.0 p.mark p.recorded ≡ true
-  follow : numbers_follow p.component p.recorded ≡ true
+pub record Tests (r : ℕ) (p : Page) : Type 0 where
+  pub mode : mode_fits p.mode (is_some p.component) (is_some p.recorded) ≡ true
+  pub mark : mark_fits p.mark ≡ true
+  pub component : component_fits r p.mark p.component ≡ true
+  pub recorded : recorded_fits r p.top.0 p.mark p.recorded ≡ true
+  pub follow : numbers_follow p.component p.recorded ≡ true
 
-tests_of : (r : ℕ) (p : Page) → keeps_rules r p ≡ true → Tests r p
+pub tests_of : (r : ℕ) (p : Page) → keeps_rules r p ≡ true → Tests r p
 unfolding keeps_rules
 tests_of r p h = record { mode = grind (arith, nat_tests); mark = grind (arith, nat_tests); component = grind (arith, nat_tests); recorded = grind (arith, nat_tests); follow = grind (arith, nat_tests) }
 
-of_tests : (r : ℕ) (p : Page) → Tests r p → keeps_rules r p ≡ true
+pub of_tests : (r : ℕ) (p : Page) → Tests r p → keeps_rules r p ≡ true
 unfolding keeps_rules
 of_tests r p t = and_from _ _ (and_from _ _ (and_from _ _ (and_from _ _ t.mode t.mark) t.component) t.recorded) t.follow
 
@@ -96,6 +96,3 @@ keeps_from r p f =
       recorded = recorded_back r p.top.0 p.mark p.recorded (λ s e. (f.recorded_holds s e, f.numbered s e, f.recorded_marked s e, f.stamped s e));
       follow = follow_back p.component p.recorded f.follow;
     })
-
-pub decides_rules : (r : ℕ) (p : Page) → Decides (keeps_rules r p) (PageRules r p)
-decides_rules r p = (rules_from r p, keeps_from r p)

@@ -43,34 +43,26 @@ fn mark_fits(mark: Option<Number>) -> bool
 fn component_fits(replica: u8, mark: Option<Number>, component: Option<View>) -> bool
     ensures { result ≡ component_fits replica mark component }
 {
-    let Some(view) = component else {
-        return true;
-    };
-    view.set.contains(replica) && is_marked(mark, view.number)
+    component.is_none_or(|view| view.set.contains(replica) && is_marked(mark, view.number))
 }
 
 fn recorded_fits(replica: u8, top: Stamp, mark: Option<Number>, recorded: Option<Recorded>) -> bool
     ensures { result ≡ recorded_fits replica top.0 mark recorded }
 {
-    let Some(Recorded { view, stamp }) = recorded else {
-        return true;
-    };
-    view.set.contains(replica)
-        && view.number >= Number(1)
-        && is_marked(mark, view.number)
-        && stamp <= top
+    recorded.is_none_or(|Recorded { view, stamp }| {
+        view.set.contains(replica)
+            && view.number >= Number(1)
+            && is_marked(mark, view.number)
+            && stamp <= top
+    })
 }
 
 fn numbers_follow(component: Option<View>, recorded: Option<Recorded>) -> bool
     ensures { result ≡ numbers_follow component recorded }
 {
-    let Some(view) = component else {
-        return true;
-    };
-    let Some(next) = recorded else {
-        return true;
-    };
-    u64::from(next.view.number.0) == u64::from(view.number.0) + 1
+    component.zip(recorded).is_none_or(|(view, next)| {
+        u64::from(next.view.number.0) == u64::from(view.number.0) + 1
+    })
 }
 
 impl Page {

@@ -1,7 +1,7 @@
 // Views, their numbers, and the stamps of the view maker's announcements.
 use quorum::ReplicaSet;
 
-// Names one announcement of the view maker.
+// Names one announcement of the view maker. A struct of its own beside `Number`: the two are never compared or added together.
 #[derive(Clone, Copy, PartialEq, Eq, PartialOrd, Ord, Debug)]
 pub struct Stamp(pub u32);
 

@@ -1,7 +1,7 @@
 use Rattle.std.proofs.Common.{false, refl, ap, ◌∙◌, Result}
 use Rattle.std.proofs.lemmas.Result.{err_from_is_err_and}
 use Rattle.quorum.specs.declared.fault.Fault.{Fault}
-use Rattle.manager.specs.Calls.{page_left, empty_row}
+use Rattle.manager.specs.Calls.{page_left}
 use Rattle.manager.specs.Effects.{Effect}
 use Rattle.runs.specs.Founding.{row_at}
 use Rattle.runs.specs.World.{World}
@@ -10,6 +10,7 @@ use Rattle.floor.specs.Tasks.{lent}
 use Rattle.floor.specs.Worlds.{world}
 use Rattle.floor.proofs.Ruled.{asked_refused, asked_not, asked_done, managed_accepted, managed_keeps}
 use Rattle.floor.proofs.floor.Floor.accept.Goals as goal
+use Rattle.rows.specs.Rows.{empty_row}
 
 pub returns-in_err-replica-clause-asked : goal.returns-in_err-replica-clause-asked
 returns-in_err-replica-clause-asked g c =
