@@ -1,17 +1,20 @@
 // The floor: a rule, a store, sixteen rows and the need.
-ghost use Rattle.std.specs.Prelude.{◌≡◌, false, replicate, if◌then◌else◌, Some, None, OnErr, OnOk, nat_lt};
+ghost use Rattle.std.specs.Prelude.{◌≡◌, ◌==◌, false, replicate, if◌then◌else◌, is_err, IfOk, MatchResult, Some, None, OnErr, OnOk, nat_lt, slice_index};
 ghost use Rattle.runs.specs.Runs.{Founded};
 ghost use Rattle.stores.specs.Kept.{page_at};
 ghost use Rattle.runs.specs.Founding.{row_at, founding_refusal, Founding};
-ghost use Rattle.quorum.specs.Faults.{allowed};
+ghost use Rattle.quorum.specs.Below.{any};
+ghost use Rattle.quorum.specs.Faults.{allowed, refused_by};
+ghost use Rattle.quorum.specs.declared.fault.Layer.TheVariants.{Rule};
+ghost use Rattle.quorum.specs.declared.fault.Reason.TheVariants.{ZeroWeight};
 ghost use Rattle.floor.specs.Worlds.{world};
 ghost use Rattle.rows.specs.Rows.{empty_row};
 
 use super::founding::{check_founding, founding_rows, write_founding};
 use lend::Table;
 use manager::Need;
-use quorum::{Fault, QuorumRule, Replica, ReplicaSet};
-use rows::{Message, Row, Stage};
+use quorum::{Fault, QuorumRule, Replica, WeightRule};
+use rows::{Message, Row};
 use stores::{Breakable, Page, Store, View};
 
 #[derive(Drop)]
@@ -20,6 +23,19 @@ pub struct Floor<R, S> {
     pub(crate) store: S,
     pub(crate) table: Table<Row>,
     pub(crate) need: Need,
+}
+
+impl<S: Breakable + Drop> Floor<WeightRule, S> {
+    // A new floor with the weight rule of these weights; refused by the rule where one is zero.
+    pub fn weighted(weights: [u8; 16], store: S) -> Result<Floor<WeightRule, S>, Fault>
+        ensures rule { MatchResult result (λ floor. floor.rule.weights ≡ weights) (λ fault. fault ≡ refused_by Rule ZeroWeight) }
+        ensures refused { is_err result ≡ any (λ k. slice_index weights k == 0) 16 }
+        ensures store { IfOk result (λ floor. floor.store ≡ store) }
+        ensures rows { IfOk result (λ floor. floor.table.rows ≡ replicate 16 (empty_row false)) }
+        ensures need { IfOk result (λ floor. floor.need ≡ Need.One) }
+    {
+        Ok(Floor::new(WeightRule::new(weights)?, store))
+    }
 }
 
 impl<R: QuorumRule + Copy, S: Breakable + Drop> Floor<R, S> {

@@ -4,7 +4,6 @@ ghost use Rattle.std.specs.Prelude.{◌≡◌};
 ghost use Rattle.manager.specs.Calls.{following, heard_or_not, losing, started, viewed, delivered, lost_at, stopped_at, started_at, answer_of, page_left, row_left};
 ghost use Rattle.manager.specs.Effects.{in_mode};
 ghost use Rattle.manager.specs.Hearing.{hears};
-ghost use Rattle.rows.specs.Rows.{empty_row};
 
 use super::answer::Answer;
 use super::effect::{close, spare};
@@ -14,9 +13,9 @@ use super::need::Need;
 use super::refuse::{check_call, check_delivery, check_loss, check_start, check_view};
 use super::take_up::report_message;
 use super::terms::Terms;
-use quorum::{Fault, Layer, QuorumRule, Replica, ReplicaSet};
+use quorum::{Fault, Layer, QuorumRule, Replica};
 use rounds::Outcome;
-use rows::{Message, Posts, Row, Stage};
+use rows::{Message, Posts, Row};
 use stores::{Head, Mode, Page};
 
 // The replica takes up a view, announced under a stamp.
