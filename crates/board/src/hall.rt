@@ -9,6 +9,7 @@ use quorum::{ChosenRule, Failure, QuorumRule, Replica, WeightRule};
 use rows::{Message, Posts};
 use runs::Call;
 use script::{Command, parse};
+use std::fmt::Display;
 use std::io;
 use std::io::Write;
 use stores::{HeldPages, View};
@@ -39,41 +40,37 @@ impl Hall {
 
     // Carries out a line and prints what came of it, under the line's number.
     pub fn hear<W: Write>(&mut self, number: u64, line: &[u8], out: &mut W) -> io::Result<()> {
+        let reply = Reply { number, out };
         match parse(line) {
             Ok(None) => Ok(()),
-            Ok(Some(command)) => self.carry_out(number, command, out),
-            Err(error) => writeln!(out, "{number}: {error}"),
+            Ok(Some(command)) => self.carry_out(command, reply),
+            Err(error) => reply.say(error),
         }
     }
 
-    fn carry_out<W: Write>(
-        &mut self,
-        number: u64,
-        command: Command,
-        out: &mut W,
-    ) -> io::Result<()> {
+    fn carry_out<W: Write>(&mut self, command: Command, reply: Reply<W>) -> io::Result<()> {
         match command {
             Command::FloorCount => {
                 self.open(ChosenRule::Count);
-                self.tell(number, Ok(()), out)
+                self.tell(Ok(()), reply)
             }
             Command::FloorWeight(weights) => {
                 let made = self.weigh(weights);
-                self.tell(number, made, out)
+                self.tell(made, reply)
             }
             Command::Found(view, need) => {
                 let founded = self.found(view, need);
-                self.tell(number, founded, out)
+                self.tell(founded, reply)
             }
-            Command::Call(call) => self.make_and_tell(number, call, out),
+            Command::Call(call) => self.make_and_tell(call, reply),
             Command::Carries(part, set) => {
                 if self.rule.carries(part, set) {
-                    writeln!(out, "{number}: carries")
+                    reply.say("carries")
                 } else {
-                    writeln!(out, "{number}: does not carry")
+                    reply.say("does not carry")
                 }
             }
-            Command::Account => self.account(out),
+            Command::Account => self.account(reply.out),
         }
     }
 
@@ -149,31 +146,26 @@ impl Hall {
         }
     }
 
-    fn make_and_tell<W: Write>(&mut self, number: u64, call: Call, out: &mut W) -> io::Result<()> {
+    fn make_and_tell<W: Write>(&mut self, call: Call, reply: Reply<W>) -> io::Result<()> {
         let first = self.post.len();
         match self.make(call) {
             Ok(answer) => {
                 self.accepted = self.accepted.saturating_add(1);
-                tell_answer(number, first, answer, out)
+                reply.accept(first, answer)
             }
-            Err(failure) => self.tell(number, Err(failure), out),
+            Err(failure) => self.tell(Err(failure), reply),
         }
     }
 
-    fn tell<W: Write>(
-        &mut self,
-        number: u64,
-        answer: Result<(), Failure>,
-        out: &mut W,
-    ) -> io::Result<()> {
+    fn tell<W: Write>(&mut self, answer: Result<(), Failure>, reply: Reply<W>) -> io::Result<()> {
         match answer {
             Ok(()) => {
                 self.accepted = self.accepted.saturating_add(1);
-                writeln!(out, "{number}: accepted")
+                reply.say("accepted")
             }
             Err(failure) => {
                 self.refused = self.refused.saturating_add(1);
-                writeln!(out, "{number}: {failure}")
+                reply.say(failure)
             }
         }
     }
@@ -197,18 +189,17 @@ impl Hall {
 
     // A replica's row and page.
     fn account_of<W: Write>(&self, replica: u8, out: &mut W) -> io::Result<()> {
-        let Some(row) = self.floor.row(replica) else {
-            return Ok(());
-        };
-        let Some(page) = self.floor.page(replica) else {
-            return Ok(());
-        };
-        let power = if row.up { "up" } else { "down" };
-        writeln!(
-            out,
-            "  {replica}: {power} {} {}, {page}",
-            page.mode, row.stage
-        )
+        if let Some(row) = self.floor.row(replica)
+            && let Some(page) = self.floor.page(replica)
+        {
+            let power = if row.up { "up" } else { "down" };
+            writeln!(
+                out,
+                "  {replica}: {power} {} {}, {page}",
+                page.mode, row.stage
+            )?;
+        }
+        Ok(())
     }
 
     fn account_of_installed<W: Write>(&self, out: &mut W) -> io::Result<()> {
@@ -223,21 +214,36 @@ impl Hall {
     }
 }
 
-// An accepted call: how a round ended, if one did, and what was posted, from this index of the post on.
-fn tell_answer<W: Write>(number: u64, first: usize, answer: Answer, out: &mut W) -> io::Result<()> {
-    match answer.ended {
-        Some((outcome, settled)) => {
-            let end = End(outcome, settled);
-            writeln!(out, "{number}: accepted, round ended with {end}")?;
-        }
-        None => writeln!(out, "{number}: accepted")?,
+// The reply to a line, which is printed under the line's number.
+#[derive(Drop)]
+struct Reply<'a, W> {
+    number: u64,
+    out: &'a mut W,
+}
+
+impl<W: Write> Reply<'_, W> {
+    fn say(self, text: impl Display + Drop) -> io::Result<()> {
+        let Reply { number, out } = self;
+        writeln!(out, "{number}: {text}")
     }
-    match answer.posts {
-        Posts::Nothing => Ok(()),
-        Posts::One(message) => tell_posted(first, message, out),
-        Posts::Two(message, other) => {
-            tell_posted(first, message, out)?;
-            tell_posted(first.saturating_add(1), other, out)
+
+    // An accepted call: how a round ended, if one did, and what was posted, from this index of the post on.
+    fn accept(self, first: usize, answer: Answer) -> io::Result<()> {
+        let Reply { number, out } = self;
+        match answer.ended {
+            Some((outcome, settled)) => {
+                let end = End(outcome, settled);
+                writeln!(out, "{number}: accepted, round ended with {end}")?;
+            }
+            None => writeln!(out, "{number}: accepted")?,
+        }
+        match answer.posts {
+            Posts::Nothing => Ok(()),
+            Posts::One(message) => tell_posted(first, message, out),
+            Posts::Two(message, other) => {
+                tell_posted(first, message, out)?;
+                tell_posted(first.saturating_add(1), other, out)
+            }
         }
     }
 }

@@ -3,7 +3,8 @@ use rounds::Outcome;
 use std::fmt;
 use stores::View;
 
-// How a round ended, and the view that it settled on, as in outcome 2 on view 7 {1,2,3}.
+// How a round ended, and the view that it settled on, as in outcome 2 on view 7 {1,2,3}. It is the pair that a round's
+// decision answers, as it stands: that the two are one answer is a rule of the project.
 #[derive(Clone, Copy)]
 pub struct End(pub Outcome, pub Option<View>);
 

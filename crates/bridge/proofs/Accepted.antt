@@ -1,5 +1,6 @@
 -- What an accepted call knows of its page, row and message. Assumes nothing.
 use Rattle.std.proofs.Common.{◌≡◌, ℕ, ◌+◌, Bool, true, false, is_some, Some, None, Option, sym, refl, ap, ◌∙◌, subst, add-one, arith}
+use Rattle.std.proofs.lemmas.Bool.{false≢true}
 use Rattle.std.proofs.lemmas.Bool.Decides.{nat_tests}
 use Rattle.stores.proofs.Kept.{rules_from}
 use Rattle.stores.specs.Facts.{PageRules}
@@ -13,13 +14,12 @@ use Rattle.rows.specs.declared.row.Row.{Row}
 use Rattle.rows.specs.declared.row.Stage.{Stage}
 use Rattle.rows.specs.declared.row.Stage.TheVariants.{Idle, Gathering, Confirming, Applying, Entering, Round}
 use Rattle.manager.specs.Calls.{head_of}
-use Rattle.safety.proofs.Marks.{false_true}
 use Rattle.manager.proofs.Accepted.{Offered, Announced}
 use Rattle.bridge.proofs.Judged.{Staged, Confirms}
 use Rattle.bridge.proofs.Options.{present_is}
 
 recorded_is : (h : Head) (o : Option Recorded) → under_head h o ≡ true → (d : Recorded) × (o ≡ Some d)
-recorded_is h None e = absurd (false_true e)
+recorded_is h None e = absurd (false≢true e)
 recorded_is h (Some d) e = (d, refl)
 
 confirms : (r : ℕ) (p : Page) (h : Head) → PageRules r p → p.mode ≡ Normal → under_head h p.recorded ≡ true → Confirms p
@@ -46,11 +46,11 @@ staged r p w o = stage_staged r p w.up w w.stage (rules_from r p o.page) (row_pa
 -- ---- a view
 pub closed_stage : (s : Stage) → is_some (head_of s) ≡ false → s ≡ Idle
 closed_stage Idle e = refl
-closed_stage (Gathering h g) e = absurd (false_true (sym e))
-closed_stage (Confirming h g) e = absurd (false_true (sym e))
-closed_stage (Applying h a) e = absurd (false_true (sym e))
-closed_stage (Entering h x) e = absurd (false_true (sym e))
-closed_stage (Round h rs) e = absurd (false_true (sym e))
+closed_stage (Gathering h g) e = absurd (false≢true (sym e))
+closed_stage (Confirming h g) e = absurd (false≢true (sym e))
+closed_stage (Applying h a) e = absurd (false≢true (sym e))
+closed_stage (Entering h x) e = absurd (false≢true (sym e))
+closed_stage (Round h rs) e = absurd (false≢true (sym e))
 
 -- an idle replica that is up is not joining
 pub not_joining : (r : ℕ) (p : Page) (w : Row) (h : Head) → Announced r p w h → p.mode ≡ Joining → ⊥

@@ -6,7 +6,7 @@ use Rattle.quorum.specs.declared.fault.Reason.{Reason}
 use Rattle.stores.specs.declared.page.Mode.{Mode}
 use Rattle.stores.specs.declared.page.Mode.TheVariants.{Waiting, Joining, Normal, Reconfiguration}
 use Rattle.stores.specs.declared.page.Page.{Page}
-use Rattle.rows.specs.Rows.{is_normal}
+use Rattle.rows.specs.Rows.{is_normal, empty_row}
 use Rattle.rows.specs.declared.message.Message.{Message}
 use Rattle.rows.specs.declared.row.Row.{Row}
 use Rattle.rows.specs.declared.row.Stage.{Stage}
@@ -29,10 +29,9 @@ use Rattle.bridge.proofs.Chains.{one_move, ends_in, forming}
 use Rattle.bridge.proofs.Down.{down_is}
 use Rattle.bridge.proofs.Heard.{Follows, stage_hears}
 use Rattle.bridge.proofs.Judged.{loss_comes, verdict_comes}
-use Rattle.bridge.proofs.Options.{err_ok, ok_inj}
+use Rattle.quorum.proofs.Refused.{err_ok, ok_inj}
 use Rattle.manager.proofs.Posted.{carried_posts}
 use Rattle.bridge.proofs.TakenUp.{taking_goes}
-use Rattle.rows.specs.Rows.{empty_row}
 
 -- what a message of the post says is in what the moves see of it
 seen_in : (m : Message) (post : List Message) → In m post → (y : Moves.Message) → In y (seen_message m) → In y (seen_post post)

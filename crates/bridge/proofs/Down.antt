@@ -2,12 +2,11 @@
 use Rattle.std.proofs.Common.{◌≡◌, false, refl, ap}
 use Rattle.std.proofs.lemmas.Bool.{and_right}
 use Rattle.stores.specs.declared.page.Page.{Page}
-use Rattle.rows.specs.Rows.{is_normal}
+use Rattle.rows.specs.Rows.{is_normal, empty_row}
 use Rattle.rows.specs.declared.row.Row.{Row}
 use Rattle.safety.specs.Replicas.{node, leaving}
 use Rattle.safety.specs.Replicas.Row.{idle}
 use Rattle.bridge.specs.Seen.{node_of}
-use Rattle.rows.specs.Rows.{empty_row}
 
 pub down_is : (p : Page) (w : Row) → node_of p (empty_row false) ≡ leaving (node_of p w) idle
 down_is p w = ap (λ b. node b p.top p.mark p.component p.recorded idle) (and_right (is_normal p.mode) false refl)

@@ -1,6 +1,6 @@
 -- Hearing a message, stage by stage, is a chain of moves at a post that holds it. Assumes nothing.
 use Rattle.std.proofs.Common.{◌≡◌, ℕ, suc, ◌+◌, ◌≤◌, Bool, true, if◌then◌else◌, not, ◌&&◌, ◌≢◌, List, [], set, is_some, Some, None, Ok, Err, Option, Result, sym, refl, ap, ◌∙◌, subst, inl, add-one}
-use Rattle.std.proofs.lemmas.Bool.{cond_both, and_parts, eqb-true, leb-true}
+use Rattle.std.proofs.lemmas.Bool.{cond_both, and_parts, eqb-true, leb-true, false≢true}
 use Rattle.quorum.specs.Laws.{Grows, Meets}
 use Rattle.quorum.specs.Members.{has}
 use Rattle.quorum.specs.Sets.{either, single}
@@ -32,7 +32,7 @@ use Rattle.manager.specs.Hearing.{Turn, heard_if, turned, one_above, as_recorded
 use Rattle.manager.specs.declared.hearing.Hearing.{Hearing}
 use Rattle.manager.specs.declared.hearing.Hearing.TheVariants.{Heard, Answered, Outdone}
 use Rattle.manager.specs.declared.need.Need.{Need}
-use Rattle.safety.proofs.Marks.{none_some, some_inj, false_true}
+use Rattle.safety.proofs.Marks.{none_some, some_inj}
 use Rattle.safety.specs.Moves.{Move, Chain}
 use Rattle.safety.specs.Moves.Chain.{end}
 use Rattle.safety.specs.Moves.Finish.{become_spare}
@@ -55,11 +55,11 @@ heard_cases P a b x k refused heard =
     (λ e. cond_both b (Err HeardAlready) (Ok (record { left = x; hearing = k })) P (λ _. refused HeardAlready) (λ _. heard e)) (λ _. refused NotHeard)
 
 above_component : (o : Option View) (n : Number) → one_above o n ≡ true → (v : View) × (o ≡ Some v) × (n ≡ number (suc v.number.0))
-above_component None n e = absurd (false_true e)
+above_component None n e = absurd (false≢true e)
 above_component (Some v) n e = (v, refl, ap number (eqb-true n.0 (v.number.0 + 1) e ∙ add-one v.number.0))
 
 like_recorded : (o : Option RecordedView) (n : Number) → as_recorded o n ≡ true → (d : RecordedView) × (o ≡ Some d) × (n ≡ d.view.number)
-like_recorded None n e = absurd (false_true e)
+like_recorded None n e = absurd (false≢true e)
 like_recorded (Some d) n e = (d, refl, ap number (eqb-true n.0 d.view.number.0 e))
 
 at_mark : (o : Option Number) (n : Number) → reaches_mark o n ≡ true → Upto o (suc n.0)

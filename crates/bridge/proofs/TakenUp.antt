@@ -1,6 +1,6 @@
 -- Taking up a view is a chain of moves. Assumes nothing.
 use Rattle.std.proofs.Common.{◌≡◌, ℕ, ◌<◌, Bool, true, if◌then◌else◌, List, [], ◌++◌, is_some, Some, None, Option, sym, refl, ap, ◌∙◌}
-use Rattle.std.proofs.lemmas.Bool.{cond_both}
+use Rattle.std.proofs.lemmas.Bool.{cond_both, false≢true}
 use Rattle.quorum.specs.Below.{within}
 use Rattle.quorum.specs.Laws.{Grows, Meets}
 use Rattle.stores.specs.declared.page.Mode.{Mode}
@@ -14,7 +14,6 @@ use Rattle.manager.specs.Calls.{report_message, own_reports, round_row, beginnin
 use Rattle.manager.specs.Effects.{Effect, in_mode, entry_of, posts_of, judged, judged_again}
 use Rattle.manager.specs.Verdicts.{verdict_of}
 use Rattle.manager.specs.declared.need.Need.{Need}
-use Rattle.safety.proofs.Marks.{false_true}
 use Rattle.safety.specs.Moves.{Move, Chain}
 use Rattle.safety.specs.Moves.Chain.{go}
 use Rattle.safety.specs.Moves.Move.{take_up, gather, apply, begin_round, tell_state, leave}
@@ -76,7 +75,7 @@ module _ (carries : ℕ → ℕ → Bool) (grows : Grows carries) (meets : Meets
 
   normal_goes : (p : Page) (w : Row) (h : Head) → w.up ≡ true → r < 16 → p.mode ≡ Normal → is_some p.component ≡ true → (o : Option View) → p.component ≡ o →
       Goes (just_taken p w h) h (normal_takes_up carries need r p w h o)
-  normal_goes p w h up below m there None i = absurd (false_true (sym (ap is_some i) ∙ there))
+  normal_goes p w h up below m there None i = absurd (false≢true (sym (ap is_some i) ∙ there))
   normal_goes p w h up below m there (Some c) i = member_goes p (thinned w h) h c up below m i
 
   -- ---- in each mode

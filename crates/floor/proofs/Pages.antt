@@ -7,13 +7,12 @@ use Rattle.quorum.proofs.Below.{any_none}
 use Rattle.quorum.specs.Below.{any}
 use Rattle.quorum.specs.Members.{has}
 use Rattle.quorum.specs.declared.fault.Reason.TheVariants.{BadFounding, NotFresh}
-use Rattle.stores.specs.declared.page.Mode.{Mode}
-use Rattle.stores.specs.declared.page.Mode.TheVariants.{Waiting, Joining, Normal, Reconfiguration}
+use Rattle.rows.proofs.Facts.{mode_waiting}
 use Rattle.stores.specs.Kept.{fresh, page_at}
 use Rattle.stores.specs.Rules.{keeps_rules}
 use Rattle.stores.specs.declared.page.Page.{Page}
 use Rattle.stores.specs.declared.view.View.{View}
-use Rattle.runs.specs.Founding.{is_waiting, is_fresh, nameless, founding_refusal, founding_page, FoundedPages}
+use Rattle.runs.specs.Founding.{is_fresh, nameless, founding_refusal, founding_page, FoundedPages}
 use Rattle.quorum.specs.Faults.{refused_if, allowed}
 use Rattle.quorum.proofs.Refused.{neither, not_refused, was_allowed}
 
@@ -42,12 +41,6 @@ founded_skip v xs ys n h f r i =
     (λ ne. f r i ∙ grind (arith, nat_tests))
     (cases_eq r n)
 
-waits : (m : Mode) → is_waiting m ≡ true → m ≡ Waiting
-waits Waiting e = refl
-waits Joining e = absurd (false≢true e)
-waits Normal e = absurd (false≢true e)
-waits Reconfiguration e = absurd (false≢true e)
-
 absent : {A : Type 0} (o : Option A) → not (is_some o) ≡ true → o ≡ None
 absent None e = refl
 absent (Some x) e = absurd (false≢true e)
@@ -59,7 +52,7 @@ fresh_from p e =
     let b = and_parts _ _ a.1 in
     let c = and_parts _ _ b.1 in
     let d = and_parts _ _ c.1 in
-    let mode = waits p.mode a.0 in
+    let mode = mode_waiting p.mode a.0 in
     let top = eqb-true p.top.0 0 b.0 in
     let mark = absent p.mark c.0 in
     let component = absent p.component d.0 in

@@ -7,7 +7,7 @@ use Rattle.quorum.specs.declared.fault.Failure.{Failure}
 use Rattle.quorum.specs.declared.fault.Failure.TheVariants.{Refused, NoMemory}
 use Rattle.quorum.specs.declared.fault.Fault.{Fault}
 use Rattle.quorum.specs.declared.fault.Reason.TheVariants.{PostFull}
-use Rattle.quorum.specs.Faults.{refused_if}
+use Rattle.quorum.specs.Faults.{refused_if, given}
 use Rattle.manager.specs.Calls.{answer_of, page_left, row_left, stopped_at}
 use Rattle.manager.specs.Effects.{Effect}
 use Rattle.manager.specs.declared.answer.Answer.{Answer}
@@ -23,12 +23,12 @@ use Rattle.runs.specs.declared.work.Work.{Work}
 use Rattle.runs.specs.declared.work.Work.TheVariants as works
 use Rattle.stores.specs.Kept.{no_place}
 use Rattle.stores.specs.declared.page.Page.{Page}
+use Rattle.floor.specs.Cuts.{TornAt, LeftAt}
 use Rattle.floor.specs.Parts.{crowded, Ready, Stored, PutBack, Tested}
 use Rattle.floor.specs.Tasks.{managed, lent, delivery_task, tasked, wants_room}
 use Rattle.floor.specs.declared.accepted.Accepted.{Accepted}
 use Rattle.floor.specs.declared.task.Task.{Task}
 use Rattle.floor.specs.declared.task.Task.TheVariants as tasks
-use Rattle.quorum.specs.Faults.{given}
 use Rattle.rows.specs.Rows.{empty_row}
 
 -- ---- the floor's part
@@ -224,6 +224,9 @@ module _ (f : ℕ → ℕ → Bool) (w u : World) (k : Work) (e : Effect) (a : A
       need_is = b.need_is ∙ ready.need_is;
     },
   )
+
+  pub break_leaves : (leaves : ℕ → Page → Page → Page → Type 0) (n : ℕ) (v : World) → Tested u a (Ok tt) → TornAt leaves n u a v → LeftAt leaves f n w k v
+  break_leaves leaves n v t b = (e, allows t, rw (ready.pages_are, ready.replica_is, ready.page_is) at b)
 
 -- ---- a stop
 -- an accepted stop leaves the row down and empty

@@ -1,4 +1,5 @@
 pub mod Worlds
 pub mod Tasks
 pub mod Parts
+pub mod Cuts
 pub mod Ran

@@ -53,7 +53,7 @@ impl<R: QuorumRule + Copy, S: Breakable + Drop> Floor<R, S> {
         ensures rule { self.new.rule ≡ self.old.rule }
     {
         let (replica, task) = self.task(post, work)?;
-        let before = *self.table.row(replica.index());
+        let before = *self.table.row(replica);
         let mut page = self.store.read(replica);
         let answer = self.lend(replica, &mut page, task)?;
         Ok(Accepted {

@@ -5,6 +5,7 @@ ghost use Rattle.runs.specs.Runs.{Taken, Run, end_of, Founded};
 ghost use Rattle.runs.specs.Steps.{Step};
 ghost use Rattle.runs.specs.World.{World};
 ghost use Rattle.stores.specs.declared.view.View.{View};
+ghost use Rattle.floor.specs.Cuts.{CutLeaves};
 ghost use Rattle.floor.specs.Worlds.{world};
 
 use super::floor::Floor;
@@ -15,9 +16,13 @@ use runs::Call;
 use stores::Breakable;
 
 impl<R: QuorumRule + Copy, S: Breakable + Drop> Floor<R, S> {
-    // Makes one call. Whatever run led here from an accepted founding, its calls and this one have the three findings.
+    // Makes one call; an accepted cut leaves of its page what the store says of its cuts. Whatever run led here from an accepted
+    // founding, its calls and this one have the three findings.
     pub fn apply(&mut self, post: &mut Vec<Message>, call: Call) -> Result<Answer, Failure>
         ensures step { Step (R.QuorumRule.carries self.old.rule)
+            (world S.Store.pages S.Store.places self.old post.old.items) call result
+            (world S.Store.pages S.Store.places self.new post.new.items) }
+        ensures cut { CutLeaves S.Breakable.leaves (R.QuorumRule.carries self.old.rule)
             (world S.Store.pages S.Store.places self.old post.old.items) call result
             (world S.Store.pages S.Store.places self.new post.new.items) }
         ensures rule { self.new.rule ≡ self.old.rule }
@@ -36,6 +41,9 @@ impl<R: QuorumRule + Copy, S: Breakable + Drop> Floor<R, S> {
 
     pub(crate) fn step(&mut self, post: &mut Vec<Message>, call: Call) -> Result<Answer, Failure>
         ensures step { Step (R.QuorumRule.carries self.old.rule)
+            (world S.Store.pages S.Store.places self.old post.old.items) call result
+            (world S.Store.pages S.Store.places self.new post.new.items) }
+        ensures cut { CutLeaves S.Breakable.leaves (R.QuorumRule.carries self.old.rule)
             (world S.Store.pages S.Store.places self.old post.old.items) call result
             (world S.Store.pages S.Store.places self.new post.new.items) }
         ensures rule { self.new.rule ≡ self.old.rule }

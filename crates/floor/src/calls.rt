@@ -1,10 +1,9 @@
 // The floor's own refusals, or the task that it hands to the manager.
 ghost use Rattle.std.specs.Prelude.{◌≡◌, nat_le};
-ghost use Rattle.quorum.specs.Faults.{refused_if};
+ghost use Rattle.quorum.specs.Faults.{refused_if, given};
 ghost use Rattle.quorum.specs.declared.fault.Reason.TheVariants.{NoSuchReplica};
 ghost use Rattle.runs.specs.World.{floor_refusal, message_at, up_test, down_test, loss_test, delivery_test};
 ghost use Rattle.floor.specs.Tasks.{delivery_task, tasked};
-ghost use Rattle.quorum.specs.Faults.{given};
 
 use super::floor::Floor;
 use super::task::Task;
@@ -34,7 +33,7 @@ impl<R: QuorumRule + Copy, S: Breakable + Drop> Floor<R, S> {
         ensures { result ≡ given (up_test self.now.table.rows replica) replica }
     {
         let found = find(replica)?;
-        let down = !self.table.row(found.index()).up;
+        let down = !self.table.row(found).up;
         refuse_if(down, Reason::WrongPower.at(replica, Layer::Floor))?;
         Ok(found)
     }
@@ -44,7 +43,7 @@ impl<R: QuorumRule + Copy, S: Breakable + Drop> Floor<R, S> {
         ensures { result ≡ given (down_test self.now.table.rows replica) replica }
     {
         let found = find(replica)?;
-        let up = self.table.row(found.index()).up;
+        let up = self.table.row(found).up;
         refuse_if(up, Reason::WrongPower.at(replica, Layer::Floor))?;
         Ok(found)
     }

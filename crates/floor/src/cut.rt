@@ -3,6 +3,7 @@ ghost use Rattle.std.specs.Prelude.{◌≡◌, List, OnOk, OnErr};
 ghost use Rattle.rows.specs.declared.message.Message.{Message};
 ghost use Rattle.runs.specs.Steps.{CutOff, Stopped};
 ghost use Rattle.runs.specs.World.{Broken, Same};
+ghost use Rattle.floor.specs.Cuts.{TornAt, LeftAt};
 ghost use Rattle.floor.specs.Parts.{as_failure, PutBack, Tested, Torn};
 ghost use Rattle.floor.specs.Worlds.{world};
 
@@ -23,6 +24,9 @@ impl<R: QuorumRule + Copy, S: Breakable + Drop> Floor<R, S> {
         ensures torn { OnOk result (Torn
             (world S.Store.pages S.Store.places self.old post.now) accepted.now
             (world S.Store.pages S.Store.places self.new post.now)) }
+        ensures left { OnOk result (TornAt S.Breakable.leaves n
+            (world S.Store.pages S.Store.places self.old post.now) accepted.now
+            (world S.Store.pages S.Store.places self.new post.now)) }
         ensures refused { OnErr result (Same
             (world S.Store.pages S.Store.places self.old post.now)
             (world S.Store.pages S.Store.places self.new post.now)) }
@@ -40,6 +44,9 @@ impl<R: QuorumRule + Copy, S: Breakable + Drop> Floor<R, S> {
             (world S.Store.pages S.Store.places self.old post.now)
             (world S.Store.pages S.Store.places self.new post.now)
             accepted.now.kept.replica accepted.now.kept.page) }
+        ensures left { OnOk result (TornAt S.Breakable.leaves n
+            (world S.Store.pages S.Store.places self.old post.now) accepted.now
+            (world S.Store.pages S.Store.places self.new post.now)) }
         ensures refused { OnErr result (PutBack
             (world S.Store.pages S.Store.places self.old post.now) accepted.now
             (world S.Store.pages S.Store.places self.new post.now)) }
@@ -67,6 +74,9 @@ impl<R: QuorumRule + Copy, S: Breakable + Drop> Floor<R, S> {
         ensures cut { CutOff (R.QuorumRule.carries self.old.rule)
             (world S.Store.pages S.Store.places self.old post.now) work result
             (world S.Store.pages S.Store.places self.new post.now) }
+        ensures left { OnOk result (LeftAt S.Breakable.leaves (R.QuorumRule.carries self.old.rule) n
+            (world S.Store.pages S.Store.places self.old post.now) work
+            (world S.Store.pages S.Store.places self.new post.now)) }
         ensures rule { self.new.rule ≡ self.old.rule }
     {
         let accepted = self.accept(post, work)?;

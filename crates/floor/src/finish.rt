@@ -56,7 +56,7 @@ impl<R: QuorumRule + Copy, S: Breakable + Drop> Floor<R, S> {
           table = record { rows = slice_set self.old.table.rows replica before };
         } }
     {
-        let row = self.table.row_mut(replica.index());
+        let row = self.table.row_mut(replica);
         *row = before;
     }
 

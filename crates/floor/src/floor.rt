@@ -19,6 +19,8 @@ use stores::{Breakable, Page, Store, View};
 
 #[derive(Drop)]
 pub struct Floor<R, S> {
+    // That it is the same after a call is said of each call, in its clause `rule`: this tells of a floor before and after, so it is
+    // no fact about a value that a type could carry.
     pub(crate) rule: R,
     pub(crate) store: S,
     pub(crate) table: Table<Row>,
@@ -68,7 +70,7 @@ impl<R: QuorumRule + Copy, S: Breakable + Drop> Floor<R, S> {
         ensures { result ≡ (if nat_lt replica 16 then Some (row_at self.now.table.rows replica) else None) }
     {
         let replica = Replica::new(replica)?;
-        Some(*self.table.row(replica.index()))
+        Some(*self.table.row(replica))
     }
 
     pub fn need(&self) -> Need

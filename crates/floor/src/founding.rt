@@ -69,7 +69,8 @@ pub(crate) fn founding_rows(view: View) -> [Row; 16]
     Replica::all().map(|replica| founding_row(view, replica))
 }
 
-// Writes the members' pages, lowest replica first, in a loop over all sixteen, since the contract speaks of each of the sixteen pages. With sixteen places no write is refused.
+// Writes the members' pages, lowest replica first, in a loop over all sixteen, since the contract speaks of each of the sixteen
+// pages. With sixteen places no write is refused.
 pub(crate) fn write_founding<S: Store>(store: &mut S, view: View) -> Result<(), Fault>
     requires number { view.number.0 ≤ 1000000000 }
     requires places { 16 ≤ S.places store.old }

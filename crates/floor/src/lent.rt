@@ -11,7 +11,7 @@ use quorum::{Fault, QuorumRule, Replica};
 use rows::Row;
 use stores::{Breakable, Page};
 
-// The manager does a task on a page and a row.
+// The manager does a task on a page and a row. Rule, need and replica come one by one, as the host's calls take them.
 fn manage<R: QuorumRule>(
     rule: &R,
     need: Need,
@@ -55,7 +55,7 @@ impl<R: QuorumRule + Copy, S: Breakable + Drop> Floor<R, S> {
     {
         let rule = self.rule;
         let need = self.need;
-        let row = self.table.row_mut(replica.index());
+        let row = self.table.row_mut(replica);
         manage(&rule, need, replica.number(), page, row, task)
     }
 }

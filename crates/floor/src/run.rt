@@ -14,7 +14,7 @@ use stores::{Breakable, View};
 
 impl<R: QuorumRule + Copy, S: Breakable + Drop> Floor<R, S> {
     fn make_all(&mut self, post: &mut Vec<Message>, calls: &[Call])
-        ensures ran { Ran (R.QuorumRule.carries self.old.rule)
+        ensures ran { Ran S.Breakable.leaves (R.QuorumRule.carries self.old.rule)
             (world S.Store.pages S.Store.places self.old post.old.items)
             (world S.Store.pages S.Store.places self.new post.new.items) calls.now }
         ensures rule { self.new.rule ≡ self.old.rule }
@@ -27,7 +27,7 @@ impl<R: QuorumRule + Copy, S: Breakable + Drop> Floor<R, S> {
     // Makes the calls, one after another, whatever each answers. Whatever run led here from an accepted founding, that
     // run and these calls have the three findings.
     pub fn run(&mut self, post: &mut Vec<Message>, calls: &[Call])
-        ensures found { Found (R.QuorumRule.carries self.old.rule)
+        ensures found { Found S.Breakable.leaves (R.QuorumRule.carries self.old.rule)
             (world S.Store.pages S.Store.places self.old post.old.items)
             (world S.Store.pages S.Store.places self.new post.new.items) calls.now }
         ensures rule { self.new.rule ≡ self.old.rule }
@@ -45,7 +45,7 @@ impl<R: QuorumRule + Copy, S: Breakable + Drop> Floor<R, S> {
     ) -> Result<(), Fault>
         ensures answer { result ≡ allowed
             (founding_refusal first (S.Store.pages self.old.store) (S.Store.places self.old.store)) }
-        ensures evening { OnOk result (Evening (R.QuorumRule.carries self.old.rule) first need
+        ensures evening { OnOk result (Evening S.Breakable.leaves (R.QuorumRule.carries self.old.rule) first need
             (world S.Store.pages S.Store.places self.new post.new.items) calls.now) }
         ensures kept { OnErr result ((self.new ≡ self.old) × (post.new ≡ post.old)) }
     {

@@ -7,7 +7,7 @@ use Rattle.quorum.specs.declared.fault.Reason.{Reason}
 use Rattle.quorum.specs.declared.set.ReplicaSet.{ReplicaSet}
 use Rattle.rounds.specs.declared.outcome.Outcome.TheVariants.{Spare}
 use Rattle.rows.specs.Messages.{body_keeps, message_keeps}
-use Rattle.rows.specs.Rows.{is_joining, stage_keeps, row_keeps}
+use Rattle.rows.specs.Rows.{is_joining, stage_keeps, row_keeps, empty_row}
 use Rattle.rows.specs.declared.message.Message.{Message}
 use Rattle.rows.specs.declared.message.Posts.{Posts}
 use Rattle.rows.specs.declared.message.Posts.TheVariants.{Nothing, One, Two}
@@ -36,7 +36,6 @@ use Rattle.laws.proofs.Recording.{judges, judges_loss}
 use Rattle.rows.proofs.Facts.{row_parts, row_from}
 use Rattle.laws.proofs.Rows.{down_keeps, up_keeps}
 use Rattle.laws.proofs.TakingUp.{advances_itself, takes_up}
-use Rattle.rows.specs.Rows.{empty_row}
 use Rattle.stores.proofs.Kept.{Tests, of_tests, tests_of}
 
 -- ---- a view is taken up

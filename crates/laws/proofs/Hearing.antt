@@ -8,7 +8,7 @@ use Rattle.quorum.specs.Members.{has}
 use Rattle.quorum.specs.Sets.{either, single}
 use Rattle.quorum.specs.declared.fault.Reason.{Reason}
 use Rattle.quorum.specs.declared.set.ReplicaSet.{ReplicaSet}
-use Rattle.rounds.specs.Reports.{reported}
+use Rattle.rounds.specs.Reports.{reported, report_of}
 use Rattle.rounds.specs.declared.report.Report.{Report}
 use Rattle.rows.specs.Recorders.{all_recorders, recorders_within, recorders_with}
 use Rattle.rows.specs.Messages.{reporting_mode, reported_page, report_keeps, body_keeps, message_keeps}
@@ -37,7 +37,6 @@ use Rattle.manager.specs.declared.hearing.Hearing.TheVariants.{Heard, Answered, 
 use Rattle.laws.proofs.Pages.{reported_tests}
 use Rattle.rows.proofs.Facts.{GatheringFacts, gathering_from, gathering_back, ConfirmingFacts, confirming_from, confirming_back, ApplyingFacts, applying_from, applying_back, EnteringFacts, entering_from, entering_back, RoundFacts, round_from, round_back, mode_normal, mode_waiting}
 use Rattle.laws.proofs.Subsets.{within_added, within_less, recorders_added}
-use Rattle.rounds.specs.Reports.{report_of}
 use Rattle.stores.proofs.Kept.{Tests, of_tests}
 
 -- a report more, of a member of the head

@@ -5,7 +5,7 @@ use Rattle.std.proofs.lemmas.Bool.Decides.{nat_tests}
 use Rattle.quorum.specs.Members.{has}
 use Rattle.rows.specs.Messages.{reported_page}
 use Rattle.rows.specs.Rows.{is_joining, not_later}
-use Rattle.stores.specs.Rules.{mode_fits, mark_fits, marked, component_fits, recorded_fits, numbers_follow, keeps_rules}
+use Rattle.stores.specs.Rules.{mode_fits, mark_fits, marked, component_fits, recorded_fits, numbers_follow}
 use Rattle.stores.specs.declared.page.Mode.{Mode}
 use Rattle.stores.specs.declared.page.Mode.TheVariants.{Waiting, Joining, Normal, Reconfiguration}
 use Rattle.stores.specs.declared.page.Page.{Page}
@@ -16,7 +16,7 @@ use Rattle.stores.specs.declared.view.View.{View}
 use Rattle.manager.specs.Calls.{topped, started}
 use Rattle.manager.specs.Effects.{in_mode, raised, recording, component_page, spare_page}
 use Rattle.rounds.specs.Reports.{report_of}
-use Rattle.stores.proofs.Kept.{Tests, tests_of, of_tests}
+use Rattle.stores.proofs.Kept.{Tests}
 
 -- ---- marks raised
 raised_fits : (m : Option Number) (n : ℕ) → mark_fits m ≡ true → n ≤ 1000000000 → mark_fits (Some (raised m n)) ≡ true

@@ -3,7 +3,7 @@ use Rattle.std.proofs.Common.{◌≡◌, ℕ, Bool, true, false, Some, None, Opt
 use Rattle.std.proofs.lemmas.Bool.{eq-eqb}
 use Rattle.std.proofs.lemmas.Bool.Decides.{nat_tests}
 use Rattle.quorum.specs.declared.set.ReplicaSet.{ReplicaSet}
-use Rattle.rows.specs.Rows.{is_joining, survivors_keep, idle_keeps, row_keeps}
+use Rattle.rows.specs.Rows.{is_joining, survivors_keep, idle_keeps, row_keeps, empty_row}
 use Rattle.rows.specs.declared.row.Row.{Row}
 use Rattle.stores.specs.declared.page.Mode.{Mode}
 use Rattle.stores.specs.declared.page.Page.{Page}
@@ -11,7 +11,6 @@ use Rattle.stores.specs.declared.view.View.{View}
 use Rattle.manager.specs.Effects.{closed, component_row, spare_row}
 use Rattle.laws.proofs.Subsets.{within_itself, within_none}
 use Rattle.rows.proofs.Facts.{row_from}
-use Rattle.rows.specs.Rows.{empty_row}
 
 -- ---- rows with the head closed
 idle_from : (up : Bool) (lost : ReplicaSet) (m : Mode) → lost.0 ≡ 0 → is_joining m ≡ false → idle_keeps up lost m ≡ true

@@ -7,7 +7,7 @@ use Rattle.quorum.specs.Below.{within}
 use Rattle.quorum.specs.Members.{has}
 use Rattle.quorum.specs.Sets.{less, single}
 use Rattle.quorum.specs.declared.set.ReplicaSet.{ReplicaSet}
-use Rattle.rounds.specs.Reports.{reported}
+use Rattle.rounds.specs.Reports.{reported, report_of}
 use Rattle.rows.specs.Messages.{reporting_mode, report_keeps, message_keeps}
 use Rattle.rows.specs.Recorders.{no_recorders}
 use Rattle.rows.specs.Rows.{survivors_keep, has_next, not_later, report_breaks, stage_keeps, row_keeps}
@@ -25,7 +25,7 @@ use Rattle.stores.specs.declared.view.Head.{Head}
 use Rattle.stores.specs.declared.view.Number.{Number}
 use Rattle.stores.specs.declared.view.Recorded.{Recorded}
 use Rattle.stores.specs.declared.view.View.{View}
-use Rattle.manager.specs.Calls.{head_of, at_highest, report_message, own_reports, round_row, beginning, topped, thinned, gathering_row, state_message, abort_message, join_message, applying_row, member_takes_up, normal_takes_up, mode_takes_up, taking_up}
+use Rattle.manager.specs.Calls.{head_of, report_message, own_reports, round_row, beginning, topped, thinned, gathering_row, state_message, abort_message, join_message, applying_row, member_takes_up, normal_takes_up, mode_takes_up, taking_up}
 use Rattle.manager.specs.Effects.{in_mode, effect, posts_of, entry_of, judged, judged_again}
 use Rattle.manager.specs.Verdicts.{verdict_of}
 use Rattle.manager.specs.declared.need.Need.{Need}
@@ -37,7 +37,6 @@ use Rattle.laws.proofs.Pages.{topped_tests, reconfigured_tests, has_view}
 use Rattle.laws.proofs.Recording.{Told, posts_keep, entry_stands, again, judges}
 use Rattle.rows.proofs.Facts.{row_parts, row_from, gathering_back, applying_back, round_back}
 use Rattle.laws.proofs.Subsets.{within_itself, within_none, within_alone, within_less, within_first, within_second, recorders_none}
-use Rattle.rounds.specs.Reports.{report_of}
 use Rattle.stores.proofs.Kept.{Tests, of_tests, tests_of}
 
 -- a page is not behind itself

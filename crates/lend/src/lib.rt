@@ -5,7 +5,9 @@ ghost use Rattle.std.specs.Prelude.{◌≡◌, ◌<◌, length, slice_index_or, 
 ghost use Rattle.std.specs.Borrow.{sem, follows};
 ghost use Rattle.lend.specs.contracts.Table.{the_row};
 
-// An array of a type parameter is read through a slice, since indexing it has no generated proof yet; so `row_mut` is proved by hand.
+use quorum::Replica;
+
+// An array of a type parameter is read through a slice, since indexing it has no generated proof yet; so `lend` is proved by hand.
 #[derive(Drop)]
 pub struct Table<T> {
     rows: [T; 16],
@@ -27,19 +29,26 @@ impl<T> Table<T> {
         s.len()
     }
 
-    // The element of a replica; the caller has seen that there is one.
-    pub fn row(&self, r: usize) -> &T
-        requires { r < 16 }
-        ensures value { (d : T) → result.now ≡ slice_index_or self.now.rows r d }
+    // The element of a replica.
+    pub fn row(&self, replica: Replica) -> &T
+        ensures value { (d : T) → result.now ≡ slice_index_or self.now.rows replica d }
         ensures sixteen { length self.now.rows ≡ 16 }
     {
         let a = &self.rows;
         let s = &a[..];
-        &s[r]
+        &s[replica.index()]
     }
 
     // Lends the element of a replica: when the loan ends, that element is what the borrower left, and no other changed.
-    pub fn row_mut(&mut self, r: usize) -> &mut T
+    pub fn row_mut(&mut self, replica: Replica) -> &mut T
+        ensures* follows { sem 𝓛 (follows (the_row T.row) T.row self.entry.ghost_name result.ghost_name (λ w. record { rows = slice_set self.old.rows replica w })) }
+        ensures value { (d : T) → result.now ≡ slice_index_or self.old.rows replica d }
+    {
+        self.lend(replica.index())
+    }
+
+    // A function by itself, since the proof by hand is of the loan alone.
+    fn lend(&mut self, r: usize) -> &mut T
         requires { r < 16 }
         ensures* follows { sem 𝓛 (follows (the_row T.row) T.row self.entry.ghost_name result.ghost_name (λ w. record { rows = slice_set self.old.rows r w })) }
         ensures value { (d : T) → result.now ≡ slice_index_or self.old.rows r d }

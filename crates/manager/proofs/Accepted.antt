@@ -2,7 +2,7 @@
 use Rattle.std.proofs.Common.{◌≡◌, ℕ, ◌<◌, true, false, not, ◌&&◌, ◌||◌, eqb, leb, ◌≢◌, is_some, Some, None, Ok, Option, sym, refl, ap}
 use Rattle.std.proofs.lemmas.Bool.{and_parts, or_parts, not-false, leb-false, eqb-false}
 use Rattle.quorum.specs.Members.{has}
-use Rattle.quorum.specs.Faults.{refused_if}
+use Rattle.quorum.specs.Faults.{refused_if, given}
 use Rattle.quorum.specs.declared.fault.Fault.{Fault}
 use Rattle.quorum.specs.declared.fault.Reason.TheVariants.{NoSuchReplica, WrongPower, ViewWithoutReplica, HeadOpen, StampNotAbove, NumbersExhausted, OtherHead, WrongParty, AgainstRules}
 use Rattle.quorum.proofs.Refused.{neither, not_refused}
@@ -16,7 +16,6 @@ use Rattle.rows.specs.Rows.{is_normal, row_keeps}
 use Rattle.rows.specs.declared.message.Message.{Message}
 use Rattle.rows.specs.declared.row.Row.{Row}
 use Rattle.manager.specs.Calls.{refusal, all_keep, offer_refusal, call_refusal, head_of, at_highest, announcement_refusal, view_refusal, message_refusal, head_refusal, delivery_refusal, party_refusal, lost_refusal, loss_refusal, start_refusal}
-use Rattle.quorum.specs.Faults.{given}
 
 pub accepted : {A : Type 0} (o : Option Fault) (x y : A) → given o x ≡ Ok y → (o ≡ None) × (x ≡ y)
 accepted None x y e = (refl, cc)

@@ -3,7 +3,7 @@ use Rattle.std.specs.Prelude.{ℕ, Bool, true, false, if◌then◌else◌, not, 
 use Rattle.std.specs.Option.{option_or}
 use Rattle.quorum.specs.Below.{within}
 use Rattle.quorum.specs.Members.{has}
-use Rattle.quorum.specs.Sets.{both, less, single}
+use Rattle.quorum.specs.Sets.{nobody_set, both, less, single}
 use Rattle.quorum.specs.declared.fault.Fault.{Fault}
 use Rattle.quorum.specs.declared.fault.Layer.TheVariants.{Manager}
 use Rattle.quorum.specs.declared.fault.Reason.{Reason}
@@ -13,7 +13,7 @@ use Rattle.rounds.specs.declared.outcome.Outcome.TheVariants.{Spare}
 use Rattle.rounds.specs.declared.report.Report.{Report}
 use Rattle.rows.specs.Messages.{message_keeps}
 use Rattle.rows.specs.Recorders.{adding, no_recorders}
-use Rattle.rows.specs.Rows.{row_keeps, is_normal}
+use Rattle.rows.specs.Rows.{row_keeps, is_normal, empty_row}
 use Rattle.rows.specs.declared.message.Body.TheVariants.{State, Abort, Join, Report as Reports}
 use Rattle.rows.specs.declared.message.Message.{Message}
 use Rattle.rows.specs.declared.message.Posts.TheVariants.{Nothing}
@@ -34,20 +34,13 @@ use Rattle.manager.specs.declared.need.Need.{Need}
 use Rattle.manager.specs.Effects.{Effect, effect, ending, in_mode, in_stage, closed, spare_page, spare_row, carried_out, posts_of, entry_of, judged, judged_again, judged_after_loss}
 use Rattle.manager.specs.Hearing.{Turn, hears}
 use Rattle.manager.specs.Verdicts.{verdict_of}
-use Rattle.quorum.specs.Faults.{refused_at, refused_if}
+use Rattle.quorum.specs.Faults.{refused_at, refused_if, given}
 use Rattle.rounds.specs.Reports.{report_of}
-use Rattle.quorum.specs.Faults.{given}
-use Rattle.rows.specs.Rows.{empty_row}
-use Rattle.rows.specs.Rows.{nobody_set}
 
 -- ---- refusals
 -- a refusal of the manager, naming the replica
 abbrev pub refusal : Reason → ℕ → Fault
 refusal reason r = refused_at Manager reason r
-
--- the first that applies
-abbrev pub first_of : Option Fault → Option Fault → Option Fault
-first_of a b = option_or a b
 
 -- page and row keep the rules
 abbrev pub all_keep : ℕ → Page → Row → Bool
@@ -55,11 +48,11 @@ all_keep r p w = keeps_rules r p && row_keeps r p w
 
 -- every call: a page or row against the rules, then a replica above 15
 abbrev pub offer_refusal : ℕ → Page → Row → Option Fault
-offer_refusal r p w = first_of (refused_if (not (all_keep r p w)) (refusal AgainstRules r)) (refused_if (nat_le 16 r) (refusal NoSuchReplica r))
+offer_refusal r p w = option_or (refused_if (not (all_keep r p w)) (refusal AgainstRules r)) (refused_if (nat_le 16 r) (refusal NoSuchReplica r))
 
 -- a call at a replica that is to be up
 abbrev pub call_refusal : ℕ → Page → Row → Option Fault
-call_refusal r p w = first_of (offer_refusal r p w) (refused_if (not w.up) (refusal WrongPower r))
+call_refusal r p w = option_or (offer_refusal r p w) (refused_if (not w.up) (refusal WrongPower r))
 
 abbrev pub head_of : Stage → Option Head
 head_of Idle = None
@@ -77,26 +70,31 @@ at_highest (Some c) = nat_le 1000000000 c.number.0
 -- a view: without the replica, a head open, the stamp not above the top stamp, normal mode at the highest number
 abbrev pub announcement_refusal : ℕ → Page → Row → Head → Option Fault
 announcement_refusal r p w h =
-    first_of (refused_if (not (has h.set.0 r)) (refusal ViewWithoutReplica r))
-    (first_of (refused_if (is_some (head_of w.stage)) (refusal HeadOpen r))
-    (first_of (refused_if (nat_le h.stamp.0 p.top.0) (refusal StampNotAbove r))
+    option_or (refused_if (not (has h.set.0 r)) (refusal ViewWithoutReplica r))
+    (option_or (refused_if (is_some (head_of w.stage)) (refusal HeadOpen r))
+    (option_or (refused_if (nat_le h.stamp.0 p.top.0) (refusal StampNotAbove r))
     (refused_if (is_normal p.mode && at_highest p.component) (refusal NumbersExhausted r))))
 
 unfoldable pub view_refusal : ℕ → Page → Row → Head → Option Fault
-view_refusal r p w h = first_of (call_refusal r p w) (announcement_refusal r p w h)
+view_refusal r p w h = option_or (call_refusal r p w) (announcement_refusal r p w h)
 
 -- a message against the rules comes first of all
 abbrev pub message_refusal : ℕ → Message → Option Fault
 message_refusal r m = refused_if (not (message_keeps m)) (refusal AgainstRules r)
 
+-- the open head, or the refusal that there is none
+abbrev pub opened : ℕ → Option Head → Result Head Fault
+opened r None = Err (refusal NoHead r)
+opened r (Some h) = Ok h
+
 -- of a message and the open head: no head, another head, a sender that is the replica itself or lost
 abbrev pub head_refusal : ℕ → Row → Message → Option Head → Option Fault
 head_refusal r w m None = Some (refusal NoHead r)
 head_refusal r w m (Some h) =
-    first_of (refused_if (not (same_head m.head h)) (refusal OtherHead r)) (refused_if (m.sender == r || has w.lost.0 m.sender) (refusal WrongParty r))
+    option_or (refused_if (not (same_head m.head h)) (refusal OtherHead r)) (refused_if (m.sender == r || has w.lost.0 m.sender) (refusal WrongParty r))
 
 unfoldable pub delivery_refusal : ℕ → Page → Row → Message → Option Fault
-delivery_refusal r p w m = first_of (message_refusal r m) (first_of (call_refusal r p w) (head_refusal r w m (head_of w.stage)))
+delivery_refusal r p w m = option_or (message_refusal r m) (option_or (call_refusal r p w) (head_refusal r w m (head_of w.stage)))
 
 -- of a loss and the open head: no head, itself, a stranger, one lost already
 abbrev pub party_refusal : ℕ → Row → ℕ → Option Head → Option Fault
@@ -105,15 +103,15 @@ party_refusal r w q (Some h) = refused_if (q == r || (not (has h.set.0 q) || has
 
 abbrev pub lost_refusal : ℕ → Row → ℕ → Option Fault
 lost_refusal r w q =
-    first_of (refused_if (nat_le 16 q) (refusal NoSuchReplica q)) (first_of (refused_if (not w.up) (refusal WrongPower r)) (party_refusal r w q (head_of w.stage)))
+    option_or (refused_if (nat_le 16 q) (refusal NoSuchReplica q)) (option_or (refused_if (not w.up) (refusal WrongPower r)) (party_refusal r w q (head_of w.stage)))
 
 -- the replica of the call above 15 comes before the lost one above 15
 unfoldable pub loss_refusal : ℕ → Page → Row → ℕ → Option Fault
-loss_refusal r p w q = first_of (offer_refusal r p w) (lost_refusal r w q)
+loss_refusal r p w q = option_or (offer_refusal r p w) (lost_refusal r w q)
 
 -- a start finds the replica up
 unfoldable pub start_refusal : ℕ → Page → Row → Option Fault
-start_refusal r p w = first_of (offer_refusal r p w) (refused_if w.up (refusal WrongPower r))
+start_refusal r p w = option_or (offer_refusal r p w) (refused_if w.up (refusal WrongPower r))
 
 -- ---- what an accepted call does
 -- a replica's own report under a head

@@ -1,7 +1,7 @@
 -- What a call leaves: recording, installing, settling, closing, and what judging comes to. Assumes nothing.
 use Rattle.std.specs.Prelude.{ℕ, ◌+◌, max, Bool, if◌then◌else◌, Some, None, Option, nat_lt}
 use Rattle.quorum.specs.Members.{has}
-use Rattle.quorum.specs.declared.set.ReplicaSet.{ReplicaSet}
+use Rattle.quorum.specs.Sets.{nobody_set}
 use Rattle.rounds.specs.declared.outcome.Outcome.{Outcome}
 use Rattle.stores.specs.declared.page.Mode.{Mode}
 use Rattle.stores.specs.declared.page.Mode.TheVariants.{Waiting, Joining, Normal, Reconfiguration}
@@ -28,7 +28,6 @@ use Rattle.rows.specs.declared.row.Stage.TheVariants.{Idle, Gathering, Confirmin
 use Rattle.manager.specs.declared.verdict.Verdict.{Verdict}
 use Rattle.manager.specs.declared.verdict.Verdict.TheVariants.{Stays, Records, Installs, Reconfigures, Closes, Forgets, Ends}
 use Rattle.manager.specs.Verdicts.{verdict_of}
-use Rattle.rows.specs.Rows.{nobody_set}
 
 -- what an accepted call leaves and answers
 pub record Effect : Type 0 where

@@ -51,6 +51,10 @@ may_hear hears already = if hears then (if already then Err HeardAlready else Ok
 abbrev pub hears_recorded : Bool → Recorders → ℕ → Part → Result (Turn Recorders) Reason
 hears_recorded hears x q part = heard_if hears (has (all_recorders x) q) (recorders_with x q part) Heard
 
+-- a Report of mode reconfiguration is answered once
+abbrev pub hears_reconfiguring : Bool → Report → Result (Turn Bool) Reason
+hears_reconfiguring answered m = heard_if (is_reconfiguration m.mode) answered true Answered
+
 -- a number one above the component view's
 abbrev pub one_above : Option View → Number → Bool
 one_above None n = false
@@ -139,15 +143,15 @@ hears_entering p e q (Reports m) = Err NotHeard
 
 -- ---- a round: Report
 -- the number that a round starts from: the component view's or, where that is absent, the recorded view's less one
-abbrev pub base_of : Option View → Option RecordedView → Option ℕ
-base_of (Some c) s = Some c.number.0
-base_of None (Some s) = Some (s.view.number.0 - 1)
+abbrev pub base_of : Option View → Option RecordedView → Option Number
+base_of (Some c) s = Some c.number
+base_of None (Some s) = Some (record { 0 = s.view.number.0 - 1 })
 base_of None None = None
 
-abbrev pub above : Option ℕ → Option View → Bool
+abbrev pub above : Option Number → Option View → Bool
 above None c = false
 above (Some n) None = false
-above (Some n) (Some c) = nat_lt n c.number.0
+above (Some n) (Some c) = nat_lt n.0 c.number.0
 
 -- a report of mode normal with a component view above the base: the board has gone on without this replica
 abbrev pub outdoes : Page → Report → Bool

@@ -9,7 +9,7 @@ use stores::View;
 pub struct Answer {
     // The messages to be posted, in order.
     pub posts: Posts,
-    // Where a round ended: how, and the view that it settled on.
+    // Where a round ended: how, and the view that it settled on, the pair that its decision gives (a rule of the project).
     pub ended: Option<(Outcome, Option<View>)>,
 }
 

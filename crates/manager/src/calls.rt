@@ -1,5 +1,6 @@
 // The calls of a host, each on one page and one row. Any argument is allowed: a call does its work or is refused, and
-// then page and row are as they were.
+// then page and row are as they were. Rule, need and replica come one by one, since a host's calls keep their parameters; within,
+// they are one value (`Terms`).
 ghost use Rattle.std.specs.Prelude.{◌≡◌};
 ghost use Rattle.manager.specs.Calls.{following, heard_or_not, losing, started, viewed, delivered, lost_at, stopped_at, started_at, answer_of, page_left, row_left};
 ghost use Rattle.manager.specs.Effects.{in_mode};
@@ -79,10 +80,12 @@ impl<R: QuorumRule> Terms<'_, R> {
         ensures page { page.new ≡ page_left page.old (heard_or_not (R.carries self.now.rule.now) self.now.need self.now.replica page.old row.old message.now.head (hears page.old row.old sender message.now.body)) }
         ensures row { row.new ≡ row_left row.old (heard_or_not (R.carries self.now.rule.now) self.now.need self.now.replica page.old row.old message.now.head (hears page.old row.old sender message.now.body)) }
     {
-        match hear(page, row, sender, &message.body) {
-            Ok(hearing) => Ok(self.follow(page, row, message.head, hearing)),
-            Err(reason) => Err(reason.at(self.replica.number(), Layer::Manager)),
-        }
+        let replica = self.replica.number();
+        let hearing = hear(page, row, sender, &message.body).map_err(|reason| reason.at(
+            replica,
+            Layer::Manager,
+        ))?;
+        Ok(self.follow(page, row, message.head, hearing))
     }
 }
 

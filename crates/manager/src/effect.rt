@@ -1,6 +1,6 @@
 // What judging comes to: recording, installing, settling, closing.
 ghost use Rattle.std.specs.Prelude.{◌≡◌};
-ghost use Rattle.manager.specs.Effects.{closed, raised, component_page, component_row, spare_page, spare_row, installing, settling, carried_out, posts_of, recording, recorded_message, next_of, next_component, member_entry, newcomer_entry, entry_of, judged, without_recording, judged_after_loss};
+ghost use Rattle.manager.specs.Effects.{closed, raised, component_page, component_row, spare_page, spare_row, installing, settling, carried_out, posts_of, recording, recorded_message, next_of, next_component, member_entry, newcomer_entry, entry_of, judged, judged_again, without_recording, judged_after_loss};
 
 use super::answer::Answer;
 use super::terms::Terms;
@@ -39,7 +39,8 @@ fn hold(page: &mut Page, row: &mut Row, view: View)
     row.survivors = view.set;
 }
 
-// The replica becomes a spare: waiting, with neither view, the mark kept.
+// The replica becomes a spare: waiting, with neither view, the mark kept. Beside `hold`: one function for both would be given an
+// absent view and ask for it twice, which is no plainer.
 pub(crate) fn spare(page: &mut Page, row: &mut Row)
     ensures page { page.new ≡ spare_page page.old }
     ensures row { row.new ≡ spare_row row.old }
@@ -243,6 +244,22 @@ fn without_recording(verdict: Verdict) -> Verdict
 }
 
 impl<R: QuorumRule> Terms<'_, R> {
+    // The head is recorded, and judged.
+    pub(crate) fn record_and_judge(
+        &self,
+        page: &mut Page,
+        row: &mut Row,
+        first: Option<Message>,
+    ) -> Answer
+        ensures answer { result ≡ (judged_again (R.carries self.now.rule.now) self.now.need self.now.replica first (entry_of self.now.replica page.old row.old)).answer }
+        ensures page { page.new ≡ (judged_again (R.carries self.now.rule.now) self.now.need self.now.replica first (entry_of self.now.replica page.old row.old)).page }
+        ensures row { row.new ≡ (judged_again (R.carries self.now.rule.now) self.now.need self.now.replica first (entry_of self.now.replica page.old row.old)).row }
+    {
+        let second = record(self.replica, page, row);
+        let verdict = self.judge(page, row);
+        carry_out(self.replica, page, row, posts_of(first, second), verdict)
+    }
+
     // The head is judged, and again after a recording; `first` is a message that the call posts before.
     pub(crate) fn judge_head(
         &self,
@@ -258,9 +275,7 @@ impl<R: QuorumRule> Terms<'_, R> {
         let Verdict::Records = verdict else {
             return carry_out(self.replica, page, row, posts_of(first, None), verdict);
         };
-        let second = record(self.replica, page, row);
-        let again = self.judge(page, row);
-        carry_out(self.replica, page, row, posts_of(first, second), again)
+        self.record_and_judge(page, row, first)
     }
 
     // The head is judged after a loss.

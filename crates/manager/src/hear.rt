@@ -1,7 +1,7 @@
 // What each stage hears: the row is changed in place.
 ghost use Rattle.std.specs.Prelude.{◌≡◌, if◌then◌else◌};
 ghost use Rattle.manager.specs.Effects.{in_stage};
-ghost use Rattle.manager.specs.Hearing.{one_above, as_recorded, as_component, reaches_mark, as_reference, fixed, hears_recorded, base_of, outdoes, may_hear, hears_gathering, hears_confirming, hears_applying, hears_entering, hears_round, hears, hearing_of, left_of};
+ghost use Rattle.manager.specs.Hearing.{one_above, as_recorded, as_component, reaches_mark, as_reference, fixed, hears_recorded, hears_reconfiguring, base_of, outdoes, may_hear, hears_gathering, hears_confirming, hears_applying, hears_entering, hears_round, hears, hearing_of, left_of};
 
 use super::hearing::Hearing;
 use quorum::{Reason, Replica, ReplicaSet};
@@ -13,7 +13,7 @@ use stores::{Mode, Number, Page, Recorded, View};
 fn is_one_above(component: Option<View>, number: Number) -> bool
     ensures { result ≡ one_above component number }
 {
-    component.is_some_and(|component| u64::from(number.0) == u64::from(component.number.0) + 1)
+    component.is_some_and(|component| u64::from(number.0) == component.number.next())
 }
 
 // The recorded view's number.
@@ -33,7 +33,7 @@ fn is_component(component: Option<View>, view: View) -> bool
 fn reaches_mark(mark: Option<Number>, number: Number) -> bool
     ensures { result ≡ reaches_mark mark number }
 {
-    mark.is_none_or(|mark| u64::from(mark.0) <= u64::from(number.0) + 1)
+    mark.is_none_or(|mark| u64::from(mark.0) <= number.next())
 }
 
 fn is_reference(reference: Option<Reference>, view: View) -> bool
@@ -53,16 +53,16 @@ fn fix(reference: Option<Reference>, component: View, survivors: ReplicaSet) -> 
 }
 
 // The number that a round starts from. The views that may be absent are met one by one, each with its `else`: a rule of the project.
-fn base(page: &Page) -> Option<u32>
+fn base(page: &Page) -> Option<Number>
     ensures { result ≡ base_of page.now.component page.now.recorded }
 {
     if let Some(component) = page.component {
-        return Some(component.number.0);
+        return Some(component.number);
     }
     let Some(recorded) = page.recorded else {
         return None;
     };
-    Some(recorded.view.number.0.saturating_sub(1))
+    Some(Number(recorded.view.number.0.saturating_sub(1)))
 }
 
 // A report of mode normal with a component view above the base: the board has gone on without this replica. As in `base`, what may
@@ -79,7 +79,7 @@ fn is_outdone(page: &Page, report: &Report) -> bool
     let Some(component) = report.component else {
         return false;
     };
-    number < component.number.0
+    number < component.number
 }
 
 fn hear_report(page: &Page, report: &Report) -> Hearing
@@ -120,6 +120,18 @@ fn hear_recorded(
     Ok(Hearing::Heard)
 }
 
+// A Report of mode reconfiguration is answered once.
+fn hear_reconfiguring(answered: &mut bool, report: &Report) -> Result<Hearing, Reason>
+    ensures answer { result ≡ hearing_of (hears_reconfiguring answered.old report.now) }
+    ensures answered { answered.new ≡ left_of answered.old (hears_reconfiguring answered.old report.now) }
+{
+    may_hear(report.mode == Mode::Reconfiguration, *answered)?;
+    *answered = true;
+    Ok(Hearing::Answered)
+}
+
+// Page, sender and body go through a function for each stage: a struct of them would be made in one place for one match, and every
+// clause would take it apart again, which is no plainer.
 #[tactic(auto, using(crate::proofs::Turns::heard_answers))]
 fn hear_gathering(
     page: &Page,
@@ -143,17 +155,11 @@ fn hear_gathering(
             let hears = is_one_above(page.component, *number);
             hear_recorded(&mut gathered.recorders, hears, sender, *part)
         }
-        Body::Report(report) => {
-            let hears = report.mode == Mode::Reconfiguration;
-            may_hear(hears, gathered.answered)?;
-            gathered.answered = true;
-            Ok(Hearing::Answered)
-        }
+        Body::Report(report) => hear_reconfiguring(&mut gathered.answered, report),
         Body::Abort | Body::Join => Err(Reason::NotHeard),
     }
 }
 
-// The arm of a Report is gathering's too: a function for both would be given the flag and the mode, and is no plainer.
 #[tactic(auto, using(crate::proofs::Turns::heard_answers))]
 fn hear_confirming(
     page: &Page,
@@ -169,12 +175,7 @@ fn hear_confirming(
             let hears = is_recorded(page.recorded, *number);
             hear_recorded(&mut confirmed.recorders, hears, sender, *part)
         }
-        Body::Report(report) => {
-            let hears = report.mode == Mode::Reconfiguration;
-            may_hear(hears, confirmed.answered)?;
-            confirmed.answered = true;
-            Ok(Hearing::Answered)
-        }
+        Body::Report(report) => hear_reconfiguring(&mut confirmed.answered, report),
         Body::State(_, _) | Body::Abort | Body::Join => Err(Reason::NotHeard),
     }
 }

@@ -1,4 +1,4 @@
-// What follows from a message that is heard: a value and no closure, since the laws of the calls speak of it.
+// What follows from a message that is heard: a value and no closure, since the definitions of the calls speak of it.
 #[derive(Clone, Copy)]
 pub enum Hearing {
     // The head is judged.

@@ -10,6 +10,9 @@ use rounds::{Outcome, Report, decide};
 use rows::{Applied, Confirmed, Entered, Gathered, Recorders, Reference, Row, Stage};
 use stores::{Head, Page, View};
 
+// Lost and head go one by one through the functions here, as parts of a row that is judged: a struct of the two would be made in one place, and
+// each clause would take it apart again, which is no plainer.
+
 // Newcomers, members of the head outside the survivors, whose Recorded was not heard.
 fn unheard(head: Head, survivors: ReplicaSet, recorders: Recorders) -> ReplicaSet
     ensures { result.0 ≡ unheard head survivors.0 recorders }
@@ -46,7 +49,8 @@ fn is_need_met(need: Need, applied: &Applied) -> bool
     })
 }
 
-// The replicas whose reports were heard.
+// The replicas whose reports were heard. The members of a view by what they report are gathered in a loop like this in `rounds`, where
+// it stands why the two are not one.
 fn heard_of(reports: &[Option<Report>; 16]) -> ReplicaSet
     ensures { result.0 ≡ heard_of reports.now }
 {

@@ -1,14 +1,14 @@
 // Why a call is turned down: the earliest that applies is given.
 ghost use Rattle.std.specs.Prelude.{◌≡◌, ◌<◌, OnOk};
-ghost use Rattle.manager.specs.Calls.{offer_refusal, call_refusal, head_of, at_highest, announcement_refusal, view_refusal, message_refusal, head_refusal, delivery_refusal, party_refusal, lost_refusal, loss_refusal, start_refusal};
-ghost use Rattle.quorum.specs.Faults.{allowed};
-ghost use Rattle.quorum.specs.Faults.{given};
+ghost use Rattle.manager.specs.Calls.{offer_refusal, call_refusal, head_of, at_highest, announcement_refusal, view_refusal, message_refusal, opened, head_refusal, delivery_refusal, party_refusal, lost_refusal, loss_refusal, start_refusal};
+ghost use Rattle.quorum.specs.Faults.{allowed, given};
 
 use quorum::{Fault, Layer, Reason, Replica, refuse_if};
 use rows::{Message, Row, Stage};
 use stores::{Head, Mode, Number, Page, View};
 
-// Page and row keep the rules, and the replica is one of the sixteen.
+// Page and row keep the rules, and the replica is one of the sixteen. Replica, page and row stand side by side in the checks, as
+// in a host's calls: a struct of them would be made in each call for its check alone, which is no plainer.
 pub(crate) fn check_offer(replica: u8, page: &Page, row: &Row) -> Result<Replica, Fault>
     ensures { result ≡ given (offer_refusal replica page.now row.now) replica }
 {
@@ -39,6 +39,13 @@ pub(crate) fn head_of(stage: &Stage) -> Option<Head>
     }
 }
 
+fn open_head(replica: u8, row: &Row) -> Result<Head, Fault>
+    ensures { result ≡ opened replica (head_of row.now.stage) }
+{
+    head_of(&row.stage).ok_or(Reason::NoHead.at(replica, Layer::Manager))
+}
+
+// Beside `has_next` of a row's rules, whose negation it is not: both are no of an absent view.
 fn is_at_highest(component: Option<View>) -> bool
     ensures { result ≡ at_highest component }
 {
@@ -90,9 +97,7 @@ pub fn check_message(replica: u8, message: &Message) -> Result<(), Fault>
 fn check_head(replica: u8, row: &Row, message: &Message) -> Result<(), Fault>
     ensures { result ≡ allowed (head_refusal replica row.now message.now (head_of row.now.stage)) }
 {
-    let Some(head) = head_of(&row.stage) else {
-        return Err(Reason::NoHead.at(replica, Layer::Manager));
-    };
+    let head = open_head(replica, row)?;
     refuse_if(
         message.head != head,
         Reason::OtherHead.at(replica, Layer::Manager),
@@ -121,9 +126,7 @@ pub(crate) fn check_delivery(
 fn check_party(replica: u8, row: &Row, lost: u8) -> Result<(), Fault>
     ensures { result ≡ allowed (party_refusal replica row.now lost (head_of row.now.stage)) }
 {
-    let Some(head) = head_of(&row.stage) else {
-        return Err(Reason::NoHead.at(replica, Layer::Manager));
-    };
+    let head = open_head(replica, row)?;
     let wrong = lost == replica || !head.set.contains(lost) || row.lost.contains(lost);
     refuse_if(wrong, Reason::WrongParty.at(replica, Layer::Manager))
 }
@@ -131,7 +134,7 @@ fn check_party(replica: u8, row: &Row, lost: u8) -> Result<(), Fault>
 fn check_lost(replica: u8, row: &Row, lost: u8) -> Result<(), Fault>
     ensures { result ≡ allowed (lost_refusal replica row.now lost) }
 {
-    refuse_if(lost >= 16, Reason::NoSuchReplica.at(lost, Layer::Manager))?;
+    Replica::new(lost).ok_or(Reason::NoSuchReplica.at(lost, Layer::Manager))?;
     refuse_if(!row.up, Reason::WrongPower.at(replica, Layer::Manager))?;
     check_party(replica, row, lost)
 }

@@ -1,10 +1,9 @@
 // Taking up a view.
 ghost use Rattle.std.specs.Prelude.{◌≡◌, None};
 ghost use Rattle.manager.specs.Calls.{report_message, own_reports, beginning, thinned, gathering_row, applying_row, member_takes_up, normal_takes_up, taking_up};
-ghost use Rattle.manager.specs.Effects.{judged_again, entry_of};
 
 use super::answer::Answer;
-use super::effect::{carry_out, message, posts_of, record};
+use super::effect::{carry_out, message, posts_of};
 use super::terms::Terms;
 use quorum::{QuorumRule, Replica, ReplicaSet};
 use rounds::Report;
@@ -76,17 +75,6 @@ impl<R: QuorumRule> Terms<'_, R> {
         carry_out(self.replica, page, row, posts, verdict)
     }
 
-    // The head is recorded without gathering, and judged.
-    fn record_at_once(&self, page: &mut Page, row: &mut Row) -> Answer
-        ensures answer { result ≡ (judged_again (R.carries self.now.rule.now) self.now.need self.now.replica None (entry_of self.now.replica page.old row.old)).answer }
-        ensures page { page.new ≡ (judged_again (R.carries self.now.rule.now) self.now.need self.now.replica None (entry_of self.now.replica page.old row.old)).page }
-        ensures row { row.new ≡ (judged_again (R.carries self.now.rule.now) self.now.need self.now.replica None (entry_of self.now.replica page.old row.old)).row }
-    {
-        let recorded = record(self.replica, page, row);
-        let verdict = self.judge(page, row);
-        carry_out(self.replica, page, row, posts_of(None, recorded), verdict)
-    }
-
     // A member takes up a view.
     fn member_takes_up(&self, page: &mut Page, row: &mut Row, head: Head, component: View) -> Answer
         ensures answer { result ≡ (member_takes_up (R.carries self.now.rule.now) self.now.need self.now.replica page.old row.old head component).answer }
@@ -100,7 +88,7 @@ impl<R: QuorumRule> Terms<'_, R> {
         }
         gather(self.replica, row, head);
         if head.set.is_subset(row.survivors) {
-            return self.record_at_once(page, row);
+            return self.record_and_judge(page, row, None);
         }
         let state = message(self.replica, head, Body::State(component, row.survivors));
         self.judge_head(page, row, Some(state))

@@ -1,4 +1,4 @@
-// What judging a head comes to: a value and no closure, since the laws of the calls speak of it.
+// What judging a head comes to: a value and no closure, since the definitions of the calls speak of it.
 use rounds::Outcome;
 use stores::View;
 
@@ -16,6 +16,6 @@ pub enum Verdict {
     Closes,
     // The recorded view goes, the replica waits again, and the head closes.
     Forgets,
-    // The round ends.
+    // The round ends, with the pair that its decision gives: a rule of the project.
     Ends(Outcome, Option<View>),
 }

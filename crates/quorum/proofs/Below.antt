@@ -10,7 +10,7 @@ use Rattle.std.proofs.lemmas.Bool.Decides.{nat_tests}
 use Rattle.std.proofs.lemmas.List.FromFn.{get_or-range_with_len}
 use Rattle.quorum.specs.Members.{has, everybody}
 use Rattle.quorum.specs.Below.{any, first, select, within, First, if_member, lowest}
-use Rattle.quorum.proofs.Bits.{has_or, has_single, has_high}
+use Rattle.quorum.proofs.Bits.{and_true, has_or, has_single, has_high}
 
 -- ---- any
 pub any_from : (f : ℕ → Bool) (n k : ℕ) → k < n → f k ≡ true → any f n ≡ true
@@ -33,10 +33,6 @@ any_none_from f n h =
     ⊎_elim (λ t. let s = any_some f n t in absurd (both_ways (f s.0) (h s.0 s.1) s.2)) (λ t. t) (cases_Bool (any f n))
 
 -- ---- first
-and_true : (b : Bool) → (b && true) ≡ b
-and_true true = refl
-and_true false = refl
-
 first_step : {A : Type 0} (g : ℕ → Option A) (n : ℕ) →
     ((first g n ≡ None) × ((k : ℕ) → k < n → g k ≡ None)) ⊎ ((a : A) × (first g n ≡ Some a) × First g n a) → (o : Option A) → o ≡ g n →
     ((option_or (first g n) (g n) ≡ None) × ((k : ℕ) → k < suc n → g k ≡ None)) ⊎ ((a : A) × (option_or (first g n) (g n) ≡ Some a) × First g (suc n) a)

@@ -1,5 +1,5 @@
 -- Membership in a set of bits. Assumes nothing.
-use Rattle.std.proofs.Common.{◌≡◌, ℕ, zero, suc, ◌+◌, ◌-◌, ◌/◌, ◌%◌, ◌^◌, ◌<◌, ◌≤◌, false, cond, not, ◌&&◌, ◌||◌, eqb, sym, refl, ap, ◌∙◌, ap₂, suc-le-suc, lt_of_lt_of_le, le_of_suc-le-suc, not-suc-le-zero, pow-suc, one-add, arith, pow_mono, shr-shr}
+use Rattle.std.proofs.Common.{◌≡◌, ℕ, zero, suc, ◌+◌, ◌-◌, ◌/◌, ◌%◌, ◌^◌, ◌<◌, ◌≤◌, Bool, true, false, cond, not, ◌&&◌, ◌||◌, eqb, sym, refl, ap, ◌∙◌, ap₂, suc-le-suc, lt_of_lt_of_le, le_of_suc-le-suc, not-suc-le-zero, pow-suc, one-add, arith, pow_mono, shr-shr}
 use native.Mathlib.Nat.{div-eq_of_lt}
 use lib.Arith.{lt-one}
 use lib.Count.{ones, ones_step, ones-ones}
@@ -18,6 +18,10 @@ below_two P p q (suc (suc x)) h = absurd (not-suc-le-zero (le_of_suc-le-suc (le_
 digits : (P : ℕ → ℕ → Type 0) → P 0 0 → P 0 1 → P 1 0 → P 1 1 → (a b : ℕ) → P (a % 2) (b % 2)
 digits P p q r s a b =
     below_two (λ x. P x (b % 2)) (below_two (P 0) p q (b % 2) (omega arith)) (below_two (P 1) r s (b % 2) (omega arith)) (a % 2) (omega arith)
+
+pub and_true : (b : Bool) → (b && true) ≡ b
+and_true true = refl
+and_true false = refl
 
 pub has_and : (a b r : ℕ) → has (bit_and a b) r ≡ (has a r && has b r)
 unfolding has

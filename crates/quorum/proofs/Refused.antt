@@ -1,9 +1,15 @@
--- What was let through was not refused. Assumes nothing.
+-- An answer is no refusal, and what was let through was not refused. Assumes nothing.
 use Rattle.std.specs.Option.{option_or}
-use Rattle.std.proofs.Common.{◌≡◌, ℕ, ◌<◌, leb, Bool, true, false, Some, None, Ok, Option, refl, arith}
+use Rattle.std.proofs.Common.{◌≡◌, ℕ, ◌<◌, leb, Bool, true, false, Some, None, Ok, Err, Option, Result, sym, refl, arith}
 use Rattle.std.proofs.lemmas.Bool.{leb-false}
 use Rattle.quorum.specs.declared.fault.Fault.{Fault}
 use Rattle.quorum.specs.Faults.{refused_if, allowed}
+
+pub ok_inj : {A B : Type 0} {x y : A} → ◌≡◌ {A = Result A B} (Ok x) (Ok y) → x ≡ y
+ok_inj e = cc
+
+pub err_ok : {A B : Type 0} {x : B} {y : A} → ◌≡◌ {A = Result A B} (Err x) (Ok y) → ⊥
+err_ok e = let z : ◌≡◌ {A = ℕ} 0 1 = cc in omega arith
 
 pub neither : {A : Type 0} (a b : Option A) → option_or a b ≡ None → (a ≡ None) × (b ≡ None)
 neither None b e = (refl, e)
@@ -18,4 +24,4 @@ one_of_sixteen r fault e = leb-false 16 r (not_refused (leb 16 r) fault e)
 
 pub was_allowed : (o : Option Fault) (u : Unit) → Ok u ≡ allowed o → o ≡ None
 was_allowed None u e = refl
-was_allowed (Some fault) u e = absurd (let z : ◌≡◌ {A = ℕ} 0 1 = cc in omega arith)
+was_allowed (Some fault) u e = absurd (err_ok (sym e))

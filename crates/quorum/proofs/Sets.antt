@@ -7,7 +7,7 @@ use Rattle.std.proofs.lemmas.Bool.{eqb-true, eq-eqb, cases_lt, lt-ltb, and_parts
 use Rattle.std.proofs.lemmas.Bool.Decides.{nat_tests}
 use Rattle.quorum.specs.Members.{has, one, size}
 use Rattle.quorum.specs.Sets.{either, both, less, single}
-use Rattle.quorum.proofs.Bits.{has_and, has_or, has_high, has_single, has_others, same_from_members}
+use Rattle.quorum.proofs.Bits.{and_true, has_and, has_or, has_high, has_single, has_others, same_from_members}
 use Rattle.quorum.specs.Tallies.{tally_lt}
 
 pub has_either : (a b r : ℕ) → has (either a b) r ≡ (has a r || has b r)
@@ -68,10 +68,6 @@ all_members a b h = (
   λ e k m. (and_parts (has a k) (has b k) (sym (has_and a b k) ∙ ap (λ n. has n k) (eqb-true (bit_and a b) a e) ∙ m)).1,
   λ e. eq-eqb (bit_and a b) a (same_from_members 16 (bit_and a b) a (lt_of_le_of_lt (and_le_l a b) h) h (λ r _. has_and a b r ∙ both_is (has a r) (has b r) (e r))),
 )
-
-and_true : (b : Bool) → (b && true) ≡ b
-and_true true = refl
-and_true false = refl
 
 -- a set without one replica
 pub has_without : (a j r : ℕ) → a < 2 ^ 16 → has (less a (single j)) r ≡ (has a r && not (eqb r j))

@@ -1,5 +1,10 @@
 -- Sets made from sets. Who is in each is said by its law in proofs/Sets; proofs use the laws. Assumes nothing.
 use Rattle.std.specs.Prelude.{ℕ, ◌-◌, ◌^◌, if◌then◌else◌, bit_and, bit_or, nat_lt}
+use Rattle.quorum.specs.declared.set.ReplicaSet.{ReplicaSet}
+
+-- nobody
+abbrev pub nobody_set : ReplicaSet
+nobody_set = record { 0 = 0 }
 
 -- the members of a and those of b
 unfoldable pub either : ℕ → ℕ → ℕ

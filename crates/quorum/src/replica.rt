@@ -22,7 +22,8 @@ impl Model for Replica {
 }
 
 impl Replica {
-    // The replica of a number, if there is one.
+    // The replica of a number, if there is one. An `Option` and no `TryFrom`: callers ask by `?` and `ok_or` and tell of the number in words
+    // of their own, so an error type would say nothing more. `number` and `index` say in their clauses that they are below 16, as `From` could not.
     pub fn new(number: u8) -> Option<Replica>
         ensures { result ≡ (if nat_lt number 16 then Some number else None) }
     {

@@ -72,7 +72,7 @@ impl ReplicaSet {
         ensures test { result ≡ within self.0 other.0 }
         ensures members { IsTrue result ↔ ((k : ℕ) → has self.0 k ≡ true → has other.0 k ≡ true) }
     {
-        self.0 & other.0 == self.0
+        self.intersection(other) == self
     }
 
     pub fn is_empty(self) -> bool

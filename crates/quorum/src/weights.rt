@@ -1,5 +1,5 @@
 // The weight rule: more than half of the set's weight.
-ghost use Rattle.std.specs.Prelude.{◌≡◌, ℕ, ◌<◌, ◌≤◌, is_err, None, MatchResult, nat_eq, slice_index};
+ghost use Rattle.std.specs.Prelude.{◌≡◌, ℕ, ◌<◌, ◌≤◌, is_err, MatchResult, nat_eq, slice_index};
 ghost use Rattle.quorum.specs.declared.fault.Layer.TheVariants.{Rule};
 ghost use Rattle.quorum.specs.declared.fault.Reason.TheVariants.{ZeroWeight};
 ghost use Rattle.quorum.specs.Below.{any};

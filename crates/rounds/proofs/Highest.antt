@@ -6,7 +6,7 @@ use Rattle.quorum.proofs.Below.{any_from, any_none_from, first_from, first_none_
 use Rattle.stores.specs.declared.view.View.{View}
 use Rattle.rounds.specs.declared.report.Report.{Report}
 use Rattle.rounds.specs.Presumed.{numbered_above, exceeded, unexceeded, presumed, Leading, Highest}
-use Rattle.rounds.proofs.Chains.{there}
+use Rattle.quorum.proofs.Chains.{there}
 use Rattle.rounds.specs.Reports.{reported, component_of}
 
 pub some_same : {A : Type 0} {o : Option A} {a b : A} → o ≡ Some a → o ≡ Some b → a ≡ b

@@ -1,4 +1,3 @@
-pub mod Chains
 pub mod Highest
 pub mod Membership
 pub mod Grounds

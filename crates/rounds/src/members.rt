@@ -7,8 +7,12 @@ use super::report::Report;
 use quorum::{QuorumRule, ReplicaSet};
 use stores::{Number, Recorded, View};
 
+// Reports and view go together through the functions here: a struct of the two would be made in one place, and each clause would take
+// it apart again, which is no plainer.
+
 // The members of the view whose reports say so. The manager gathers whoever reported in a loop like this: one function for both
-// would be public and take a closure, so it would ask something of its callers, which no public function does.
+// would be public and take a closure, so it would ask something of its callers, which no public function may, by a rule of the project;
+// and its contract, which speaks of the closure, is longer than the loop.
 fn members_that<F: Fn(&Report) -> bool>(
     says: F,
     reports: &[Option<Report>; 16],

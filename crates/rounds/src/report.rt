@@ -63,11 +63,11 @@ impl Report {
         self.mark.is_some_and(|mark| number < mark)
     }
 
-    // Its mark exceeds the number after this one. Any number may be reported, so the sum saturates: no mark is above the largest.
+    // Its mark exceeds the number after this one.
     pub(crate) fn is_marked_past(&self, number: Number) -> bool
         ensures { result ≡ marked_above (number.0 + 1) self.now }
     {
         self.mark
-            .is_some_and(|mark| number.0.saturating_add(1) < mark.0)
+            .is_some_and(|mark| number.next() < u64::from(mark.0))
     }
 }

@@ -1,7 +1,7 @@
 -- Who recorded, as a member and as a newcomer. Assumes nothing.
 use Rattle.std.specs.Prelude.{ℕ, Bool, ◌&&◌}
 use Rattle.quorum.specs.Below.{within}
-use Rattle.quorum.specs.Sets.{either, single}
+use Rattle.quorum.specs.Sets.{nobody_set, either, single}
 use Rattle.quorum.specs.declared.set.ReplicaSet.{ReplicaSet}
 use Rattle.rows.specs.declared.message.Part.{Part}
 use Rattle.rows.specs.declared.message.Part.TheVariants.{Member, Newcomer}
@@ -13,7 +13,7 @@ adding s q = record { 0 = either s.0 (single q) }
 
 -- nobody recorded
 abbrev pub no_recorders : Recorders
-no_recorders = record { members = record { 0 = 0 }; newcomers = record { 0 = 0 } }
+no_recorders = record { members = nobody_set; newcomers = nobody_set }
 
 -- whoever recorded, in either part
 abbrev pub all_recorders : Recorders → ℕ

@@ -2,6 +2,7 @@
 use Rattle.std.specs.Prelude.{ℕ, Bool, true, false, not, ◌&&◌, List, Some, None, Option, ◌==◌, nat_le, nat_lt}
 use Rattle.quorum.specs.Below.{any, within}
 use Rattle.quorum.specs.Members.{has}
+use Rattle.quorum.specs.Sets.{nobody_set}
 use Rattle.quorum.specs.declared.set.ReplicaSet.{ReplicaSet}
 use Rattle.rounds.specs.Reports.{reported}
 use Rattle.rounds.specs.declared.report.Report.{Report}
@@ -121,10 +122,6 @@ stage_keeps r p up lost (Round h rs) = round_keeps r p h rs
 
 unfoldable pub row_keeps : ℕ → Page → Row → Bool
 row_keeps r p w = survivors_keep w.survivors p.component && stage_keeps r p w.up w.lost w.stage
-
--- nobody
-abbrev pub nobody_set : ReplicaSet
-nobody_set = record { 0 = 0 }
 
 -- a row that is down, or up, and empty
 abbrev pub empty_row : Bool → Row

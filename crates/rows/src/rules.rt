@@ -69,6 +69,7 @@ fn body_keeps_rules(sender: u8, head: Head, body: &Body) -> bool
 }
 
 impl Message {
+    // The sender is a number, as a host gives it; one that passes is one of the sixteen.
     #[tactic(auto, unfolding(crate::specs::Messages::message_keeps))]
     pub fn keeps_rules(&self) -> bool
         ensures test { result ≡ message_keeps self.now }
@@ -78,6 +79,8 @@ impl Message {
     }
 }
 
+// Replica, page and head stand side by side, here and at each stage: a struct of the three would be made in five arms of one
+// match, and each clause would take it apart again, which is no plainer.
 fn head_keeps_rules(replica: u8, page: &Page, head: Head) -> bool
     ensures { result ≡ head_keeps replica page.now head }
 {
@@ -172,7 +175,10 @@ fn breaks_rules(head: Head, sender: Replica, report: Option<Report>) -> bool
 fn any_breaks_rules(head: Head, reports: &[Option<Report>; 16]) -> bool
     ensures { result ≡ any (λ q. report_breaks head q (reported reports.now q)) 16 }
 {
-    Replica::all().iter().any(|sender| breaks_rules(head, *sender, reports[sender.index()]))
+    Replica::all()
+        .iter()
+        .zip(reports.iter())
+        .any(|(sender, report)| breaks_rules(head, *sender, *report))
 }
 
 fn round_keeps_rules(replica: u8, page: &Page, head: Head, reports: &[Option<Report>; 16]) -> bool

@@ -23,14 +23,12 @@ use Rattle.stores.specs.declared.view.Head.{Head}
 use Rattle.stores.specs.declared.view.View.{View}
 use Rattle.runs.specs.Findings.{head_under}
 use Rattle.runs.specs.Founding.{row_at}
-use Rattle.runs.specs.World.{World, replica_of, unless, message_at, up_test, down_test, loss_test, delivery_test, page_of, row_of, delivered_or_not, asked, full, placed, ruled}
+use Rattle.runs.specs.World.{World, replica_of, unless, message_at, up_test, down_test, loss_test, delivery_test, page_of, row_of, delivered_or_not, asked, full, placed, ruled, floor_refusal}
 use Rattle.runs.specs.declared.work.Work.{Work}
 use Rattle.runs.specs.declared.work.Work.TheVariants.{View as Views, Deliver, Loss, Start}
-use Rattle.runs.proofs.Answered.{ok_inj, err_ok, let_through}
-use Rattle.quorum.specs.Faults.{refused_if}
-use Rattle.quorum.proofs.Refused.{neither, one_of_sixteen}
-use Rattle.runs.specs.World.{floor_refusal}
-use Rattle.quorum.specs.Faults.{given}
+use Rattle.quorum.proofs.Refused.{ok_inj, err_ok, neither, one_of_sixteen}
+use Rattle.runs.proofs.Answered.{let_through}
+use Rattle.quorum.specs.Faults.{refused_if, given}
 use Rattle.rows.specs.Rows.{empty_row}
 
 -- ---- the message that is delivered stands in the post

@@ -11,12 +11,11 @@ use Rattle.manager.specs.declared.need.Need.{Need}
 use Rattle.stores.specs.Kept.{page_at}
 use Rattle.stores.specs.declared.page.Page.{Page}
 use Rattle.stores.specs.declared.view.View.{View}
-use Rattle.runs.specs.Founding.{is_fresh, founding_refusal, Founding}
+use Rattle.runs.specs.Founding.{is_fresh, founding_refusal, Founding, nameless}
 use Rattle.runs.specs.Runs.{Founded}
 use Rattle.runs.specs.World.{World}
 use Rattle.quorum.specs.Faults.{refused_if}
 use Rattle.quorum.proofs.Refused.{neither, not_refused}
-use Rattle.runs.specs.Founding.{nameless}
 
 -- a set that is not empty has a member
 pub a_member : (s : ℕ) → s < 2 ^ 16 → eqb s 0 ≡ false → (q : ℕ) × (q < 16) × (has s q ≡ true)

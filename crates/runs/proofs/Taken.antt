@@ -26,17 +26,16 @@ use Rattle.runs.specs.Findings.{Asks, head_under, Accepted, FormsIn, SettlesIn}
 use Rattle.runs.specs.Founding.{row_at}
 use Rattle.runs.specs.Runs.{Taken}
 use Rattle.runs.specs.Steps.{Step, stopped, Halted}
-use Rattle.runs.specs.World.{World, replica_of, up_test, page_of, row_of, ruled, Changed, Same, Broken, listed}
+use Rattle.runs.specs.World.{World, replica_of, up_test, page_of, row_of, ruled, Changed, Same, Broken, listed, floor_refusal}
 use Rattle.runs.specs.declared.work.Call.{Call}
 use Rattle.runs.specs.declared.work.Call.TheVariants.{Whole, Cut, Stop}
 use Rattle.runs.specs.declared.work.Work.{Work}
 use Rattle.runs.proofs.Accepted.{ruled_moves}
-use Rattle.runs.proofs.Answered.{ok_inj, err_ok, let_through}
+use Rattle.quorum.proofs.Refused.{ok_inj, err_ok, neither, one_of_sixteen}
+use Rattle.runs.proofs.Answered.{let_through}
 use Rattle.runs.proofs.Posts.{posted_by, report_posted}
 use Rattle.runs.proofs.Seen.{seen_at, world_of, Sixteen, both_here, both_others, row_here, row_others, seen_same, long_both, long_row}
 use Rattle.quorum.specs.Faults.{refused_if}
-use Rattle.quorum.proofs.Refused.{neither, one_of_sixteen}
-use Rattle.runs.specs.World.{floor_refusal}
 use Rattle.rows.specs.Rows.{empty_row}
 
 abbrev taken : Call → Result Answer Failure → World → Taken

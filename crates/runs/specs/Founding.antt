@@ -3,6 +3,7 @@ use Rattle.std.specs.Prelude.{◌≡◌, ℕ, ◌<◌, Bool, true, false, if◌t
 use Rattle.std.specs.Option.{option_or}
 use Rattle.quorum.specs.Below.{any}
 use Rattle.quorum.specs.Members.{has}
+use Rattle.quorum.specs.Sets.{nobody_set}
 use Rattle.quorum.specs.declared.fault.Fault.{Fault}
 use Rattle.quorum.specs.declared.fault.Layer.TheVariants.{Floor}
 use Rattle.quorum.specs.declared.fault.Reason.{Reason}
@@ -12,23 +13,15 @@ use Rattle.rows.specs.declared.message.Message.{Message}
 use Rattle.rows.specs.declared.row.Row.{Row}
 use Rattle.rows.specs.declared.row.Stage.TheVariants.{Idle}
 use Rattle.stores.specs.Kept.{fresh, page_at}
-use Rattle.stores.specs.declared.page.Mode.{Mode}
-use Rattle.stores.specs.declared.page.Mode.TheVariants.{Waiting, Joining, Normal, Reconfiguration}
+use Rattle.stores.specs.declared.page.Mode.TheVariants.{Normal}
 use Rattle.stores.specs.declared.page.Page.{Page}
 use Rattle.stores.specs.declared.view.View.{View}
 use Rattle.quorum.specs.Faults.{refused_by, refused_if}
-use Rattle.rows.specs.Rows.{nobody_set}
-use Rattle.rows.specs.Rows.{empty_row}
+use Rattle.rows.specs.Rows.{is_waiting, empty_row}
 
 -- the row of replica r
 abbrev pub row_at : List Row → ℕ → Row
 row_at rows r = slice_index_or rows r (empty_row false)
-
-abbrev pub is_waiting : Mode → Bool
-is_waiting Waiting = true
-is_waiting Joining = false
-is_waiting Normal = false
-is_waiting Reconfiguration = false
 
 -- a page of a replica that has done nothing yet
 abbrev pub is_fresh : Page → Bool

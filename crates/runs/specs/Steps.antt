@@ -7,8 +7,7 @@ use Rattle.manager.specs.Calls.{stopped_at}
 use Rattle.manager.specs.Effects.{Effect}
 use Rattle.manager.specs.declared.answer.Answer.{Answer}
 use Rattle.rows.specs.declared.message.Posts.TheVariants.{Nothing}
-use Rattle.runs.specs.World.{World, unless, up_test, page_of, row_of, ruled, Did, Broken, Same}
-use Rattle.runs.specs.World.{replica_of}
+use Rattle.runs.specs.World.{World, unless, up_test, page_of, row_of, ruled, Did, Broken, Same, replica_of}
 use Rattle.runs.specs.declared.work.Call.{Call}
 use Rattle.runs.specs.declared.work.Call.TheVariants.{Whole, Cut, Stop}
 use Rattle.runs.specs.declared.work.Work.{Work}

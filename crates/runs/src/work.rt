@@ -5,7 +5,7 @@ ghost use Rattle.runs.specs.World.{replica_of, replica_of_call};
 use stores::Head;
 
 // Calls that write a page, and so may be cut off.
-#[derive(Clone, Copy)]
+#[derive(Clone, Copy, PartialEq, Eq, Debug)]
 pub enum Work {
     // The replica takes up a view.
     View(u8, Head),
@@ -16,7 +16,7 @@ pub enum Work {
     Start(u8),
 }
 
-#[derive(Clone, Copy)]
+#[derive(Clone, Copy, PartialEq, Eq, Debug)]
 pub enum Call {
     Whole(Work),
     // The page's write is broken off after so many byte-writes.

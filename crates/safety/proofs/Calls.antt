@@ -1,6 +1,6 @@
 -- Calls, whole or cut off, keep the invariant; and what a call settles. Assumes nothing.
 use Rattle.std.proofs.Common.{◌≡◌, ℕ, ◌<◌, ◌≤◌, Bool, ◌≢◌, ◌⊎◌, List, [], ◌++◌, Some, None, Option, sym, refl, ap, ◌∙◌, subst, inl, inr, ⊎_elim}
-use Rattle.std.proofs.lemmas.Bool.{cases_eq}
+use Rattle.std.proofs.lemmas.Bool.{cases_eq, false≢true}
 use Rattle.quorum.specs.Laws.{Meets}
 use Rattle.stores.specs.declared.view.Head.{Head}
 use Rattle.stores.specs.declared.view.View.{View}
@@ -15,7 +15,7 @@ use Rattle.safety.proofs.History.{History, in_chain, in_ended, in_call}
 use Rattle.safety.proofs.History.Event.{installs, forms}
 use Rattle.safety.proofs.Invariant.{NodeOk, Rooted, Invariant, Later}
 use Rattle.safety.proofs.Lists.{in_split, Was, was_same}
-use Rattle.safety.proofs.Marks.{none_some, false_true}
+use Rattle.safety.proofs.Marks.{none_some}
 use Rattle.safety.specs.Runs.Ended.{whole, cut_new, cut_old}
 use Rattle.safety.proofs.Chains.{chain_keeps}
 use Rattle.safety.proofs.Stays.{node_stays, message_stays, rivals_stay}
@@ -64,7 +64,7 @@ module _ (carries : ℕ → ℕ → Bool) (first : View) (meets : Meets carries)
             both = a.both;
             chose = a.chose;
             known = a.known;
-            free = λ z. absurd (false_true z);
+            free = λ z. absurd (false≢true z);
             row_ok = tt;
           })) at_r
 

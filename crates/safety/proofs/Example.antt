@@ -1,6 +1,6 @@
 -- A run in which a view is recorded and installed, the group fails, and a round settles. Assumes nothing.
 use Rattle.std.proofs.Common.{◌≡◌, ℕ, zero, suc, Bool, true, false, ◌≢◌, ◌⊎◌, List, [], ◌∷◌, ◌++◌, Some, None, Option, sym, refl, ap, ◌∙◌, subst, inl, inr, arith}
-use Rattle.quorum.specs.Members.{has}
+use Rattle.quorum.specs.Members.{has, tally, one, majority}
 use Rattle.stores.specs.declared.view.Head.{Head}
 use Rattle.stores.specs.declared.view.Number.{Number}
 use Rattle.stores.specs.declared.view.Stamp.{Stamp}
@@ -14,9 +14,8 @@ use Rattle.safety.specs.Moves.{Empty, Adds, Settlement, settlement, Chain}
 use Rattle.safety.specs.Rounds.{Clear, Low, Decides}
 use Rattle.safety.specs.Runs.{World, Step, done, Call, Run, world_at, Started}
 use Rattle.safety.proofs.Lists.{in_split}
-use Rattle.safety.proofs.Marks.{none_some, false_true, some_inj, view_inj}
-use Rattle.std.proofs.lemmas.Bool.{eqb-true}
-use Rattle.quorum.specs.Members.{tally, one, majority}
+use Rattle.safety.proofs.Marks.{none_some, some_inj, view_inj}
+use Rattle.std.proofs.lemmas.Bool.{eqb-true, false≢true}
 use Rattle.quorum.proofs.Bits.{has_high, has_single}
 use Rattle.quorum.proofs.Sets.{has_none}
 use Rattle.safety.specs.Example.{GoesOn}
@@ -38,10 +37,10 @@ only_1 : (p : ℕ) → has 2 p ≡ true → p ≡ 1
 only_1 p h = eqb-true p 1 (sym (has_single 1 p) ∙ h)
 
 nobody : Empty 0
-nobody p h = false_true (sym (has_none p) ∙ h)
+nobody p h = false≢true (sym (has_none p) ∙ h)
 
 no_more : (p : ℕ) → has 3 (suc (suc p)) ≡ true → ⊥
-no_more p h = false_true (sym (has_high 3 2 (suc (suc p)) (omega arith) (omega arith)) ∙ h)
+no_more p h = false≢true (sym (has_high 3 2 (suc (suc p)) (omega arith) (omega arith)) ∙ h)
 
 zero_in : has 3 0 ≡ true
 unfolding has

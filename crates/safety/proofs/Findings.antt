@@ -2,7 +2,7 @@
 use Rattle.std.proofs.Common.{◌≡◌, ℕ, zero, suc, ◌<◌, ◌≤◌, max, Bool, ◌≢◌, ◌⊎◌, List, [], ◌∷◌, Some, None, Option, sym, refl, ap, ◌∙◌, subst, inl, inr, ⊎_elim, arith}
 use Rattle.std.proofs.lemmas.Bool.{cases_eq, cases_lt, and_from}
 use Rattle.quorum.specs.Members.{has}
-use Rattle.quorum.specs.Laws.{Grows, Meets}
+use Rattle.quorum.specs.Laws.{Grows, Meets, Within}
 use Rattle.stores.specs.declared.view.Number.{Number}
 use Rattle.stores.specs.declared.view.View.{View}
 use Rattle.stores.specs.Views.{view, recorded}
@@ -14,7 +14,6 @@ use Rattle.safety.proofs.Invariant.{RowOk, Backed, Invariant}
 use Rattle.safety.proofs.Lists.{was_in}
 use Rattle.safety.proofs.Marks.{none_some, some_inj, view_inj}
 use native.Mathlib.Nat.{max_comm}
-use Rattle.quorum.specs.Laws.{Within}
 use Rattle.quorum.specs.Sets.{both}
 use Rattle.quorum.proofs.Sets.{has_both}
 use Rattle.safety.specs.Findings.{Installed, Forms, OneView, Succeeds, NeverBack, Safe, Safety}

@@ -2,6 +2,7 @@
 -- V, X and Y sets, and `past` is what has happened so far. Assumes nothing.
 use Rattle.std.proofs.Common.{◌≡◌, ℕ, Bool, List, [], ◌∷◌, ◌++◌, Option, arith}
 use Rattle.stores.specs.declared.view.Head.{Head}
+use Rattle.stores.specs.declared.view.View.{View}
 use Rattle.safety.specs.Replicas.{Node, Message}
 use Rattle.safety.specs.Moves.{Move, Settlement, Finish, Chain}
 use Rattle.safety.specs.Moves.Move.{take_up, gather, apply, begin_round, tell_state, answer, hear_gathering, hear_confirming, hear_state, hear_entering, hear_report, member_records, newcomer_records, give_up, leave, close, wait_again}
@@ -21,6 +22,10 @@ pub data Event : Type 0 where
 -- the latest first
 abbrev pub History : Type 0
 History = List Event
+
+-- the same once a replica comes to hold v
+abbrev pub past_after : History → View → History
+past_after past v = installs v.number.0 v.set.0 ∷ past
 
 pub records_inj : {q k s X p j t Y : ℕ} → records q k s X ≡ records p j t Y → (q ≡ p) × (k ≡ j) × (s ≡ t) × (X ≡ Y)
 records_inj h = (cc, cc, cc, cc)

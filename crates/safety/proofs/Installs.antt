@@ -1,5 +1,6 @@
 -- Installing a view, and becoming a spare. Assumes nothing.
 use Rattle.std.proofs.Common.{◌≡◌, ℕ, suc, Bool, true, ◌⊎◌, [], ◌∷◌, Some, Option, sym, refl, ap, ◌∙◌, subst, inl, inr, arith}
+use Rattle.std.proofs.lemmas.Bool.{false≢true}
 use Rattle.quorum.specs.Laws.{Meets}
 use Rattle.stores.specs.declared.view.Head.{Head}
 use Rattle.stores.specs.declared.view.Number.{Number}
@@ -12,10 +13,11 @@ use Rattle.safety.specs.Replicas.Row.{under}
 use Rattle.safety.specs.Moves.{Part}
 use Rattle.safety.specs.Runs.{World}
 use Rattle.safety.proofs.Fate.{May, Dead}
-use Rattle.safety.proofs.History.{History, installs_inj, records_installs}
+use Rattle.safety.proofs.History.{History, past_after, installs_inj, records_installs}
 use Rattle.safety.proofs.History.Event.{records, installs}
 use Rattle.safety.proofs.Invariant.{RowOk, Backed, Rooted, Invariant, Later}
-use Rattle.safety.proofs.Marks.{none_some, false_true, some_inj, Reaches}
+use Rattle.safety.proofs.Marks.{none_some, some_inj}
+use Rattle.stores.specs.Facts.{Marked}
 use Rattle.safety.proofs.Worlds.{put}
 use Rattle.safety.proofs.Quiet.{quiet}
 use Rattle.safety.proofs.Rooted.{rooted_new}
@@ -36,19 +38,16 @@ module _ (carries : ℕ → ℕ → Bool) (first : View) where
         both = λ k V j Y s u f. absurd (none_some u);
         chose = λ k V s Y u f. absurd (none_some u);
         known = λ k V u. absurd (none_some u);
-        free = λ z. absurd (false_true z);
+        free = λ z. absurd (false≢true z);
         row_ok = tt;
       })
       (λ m u. absurd u)
 
   module _ (past : History) (w : World) (r : ℕ) (i : Invariant carries first past w) where
-    abbrev pub past_after : View → History
-    past_after v = installs v.number.0 v.set.0 ∷ past
-
     -- r comes to hold v: its mark fits and is not lowered, and whatever it recorded with v's number is dead
     module _ (mark : Option Number) (v : View)
         (fits : (mark ≡ Some v.number) ⊎ (mark ≡ Some (number (suc v.number.0))))
-        (raised : (k : ℕ) → Reaches (w.at r).mark k → Reaches mark k)
+        (raised : (k : ℕ) → Marked (w.at r).mark k → Marked mark k)
         (fate : (s Y : ℕ) → In (records r v.number.0 s Y) past → Dead carries past w v.number.0 v.set.0 s Y) where
       abbrev world_after : World
       world_after = put w r (holding (w.at r) mark v) []
@@ -57,10 +56,10 @@ module _ (carries : ℕ → ℕ → Bool) (first : View) where
       may t Y (inl l) = inl l
       may t Y (inr u) = absurd (none_some u)
 
-      pub then : Later past w (past_after v) world_after
+      pub then : Later past w (past_after past v) world_after
       then = later carries first past w r (holding (w.at r) mark v) [] (installs v.number.0 v.set.0 ∷ []) may (λ q k s Y. elim [ inl u ↦ absurd (records_installs u) | inr u ↦ absurd u ])
 
-      own : (q k s Y : ℕ) → In (records q k s Y) (past_after v) → In (records q k s Y) past
+      own : (q k s Y : ℕ) → In (records q k s Y) (past_after past v) → In (records q k s Y) past
       own q k s Y (inl u) = absurd (records_installs u)
       own q k s Y (inr u) = u
 
@@ -70,7 +69,7 @@ module _ (carries : ℕ → ℕ → Bool) (first : View) where
       mark_of : (k V : ℕ) → ◌≡◌ {A = Option View} (Some v) (Some (view k V)) → (mark ≡ Some (number k)) ⊎ (mark ≡ Some (number (suc k)))
       mark_of k V u = subst (λ (y : View). (mark ≡ Some y.number) ⊎ (mark ≡ Some (number (suc y.number.0)))) (some_inj u) fits
 
-      pub installed : Rooted carries first (past_after v) → Invariant carries first (past_after v) world_after
+      pub installed : Rooted carries first (past_after past v) → Invariant carries first (past_after past v) world_after
       installed ro =
           let a = i.nodes r in
           kept carries first past w r (holding (w.at r) mark v) [] (installs v.number.0 v.set.0 ∷ []) i then (λ q k s Y. elim [ inl u ↦ absurd (records_installs u) | inr u ↦ absurd u ])
@@ -81,20 +80,20 @@ module _ (carries : ℕ → ℕ → Bool) (first : View) where
             topped = λ k s Y u. a.topped k s Y (own r k s Y u);
             within = λ k s Y u. a.within k s Y (own r k s Y u);
             both = λ k V j Y s u f. absurd (none_some f);
-            chose = λ k V s Y u f. inr (dead_stays carries past w (past_after v) world_after then k V s Y (fate_of k V s Y u (own r k s Y f)));
+            chose = λ k V s Y u f. inr (dead_stays carries past w (past_after past v) world_after then k V s Y (fate_of k V s Y u (own r k s Y f)));
             known = λ k V u. inl (ap (λ (y : View). installs y.number.0 y.set.0) (sym (some_inj u)));
             free = λ z. inl refl;
             row_ok = tt;
           })
-          (λ m u. absurd u) ro (rivals_stay carries past w (past_after v) world_after then own i.rivals)
+          (λ m u. absurd u) ro (rivals_stay carries past w (past_after past v) world_after then own i.rivals)
 
     -- the recorded view becomes the component view: nothing was recorded with its number, which is the mark
     module _ (meets : Meets carries) where
       from_recorded : (v : View) → (w.at r).mark ≡ Some v.number → Backed carries past v.number.0 v.set.0
-          → Invariant carries first (past_after v) (put w r (holding (w.at r) (w.at r).mark v) [])
+          → Invariant carries first (past_after past v) (put w r (holding (w.at r) (w.at r).mark v) [])
       from_recorded v m b =
           installed (w.at r).mark v (inl m) (λ k u. u) fate
-          (rooted_new carries first meets past w (past_after v) (put w r (holding (w.at r) (w.at r).mark v) []) (then (w.at r).mark v (inl m) (λ k u. u) fate) i.rooted i.rivals v.number.0 v.set.0 b
+          (rooted_new carries first meets past w (past_after past v) (put w r (holding (w.at r) (w.at r).mark v) []) (then (w.at r).mark v (inl m) (λ k u. u) fate) i.rooted i.rivals v.number.0 v.set.0 b
           (λ j Y. elim [ inl u ↦ inr (installs_inj u) | inr u ↦ inl u ]))
         where
           fate : (s Y : ℕ) → In (records r v.number.0 s Y) past → Dead carries past w v.number.0 v.set.0 s Y
@@ -102,7 +101,7 @@ module _ (carries : ℕ → ℕ → Bool) (first : View) where
 
       pub keep_member_installs : (h : Head) (v : View) (d : Recorded) (heard part : ℕ) → (w.at r).row ≡ under h (confirming heard)
           → (w.at r).component ≡ Some v → (w.at r).recorded ≡ Some d → Part part heard → carries part v.set.0 ≡ true
-          → Invariant carries first (past_after d.view) (put w r (holding (w.at r) (w.at r).mark d.view) [])
+          → Invariant carries first (past_after past d.view) (put w r (holding (w.at r) (w.at r).mark d.view) [])
       keep_member_installs h v d heard part e c s of car =
           let a = i.nodes r in
           let b = subst (RowOk carries past w r (w.at r)) e a.row_ok in
@@ -121,7 +120,7 @@ module _ (carries : ℕ → ℕ → Bool) (first : View) where
 
       pub keep_newcomer_installs : (h : Head) (v : View) (d : Recorded) (heard part : ℕ) → (w.at r).row ≡ under h (entering v heard)
           → (w.at r).recorded ≡ Some d → Part part heard → carries part v.set.0 ≡ true
-          → Invariant carries first (past_after d.view) (put w r (holding (w.at r) (w.at r).mark d.view) [])
+          → Invariant carries first (past_after past d.view) (put w r (holding (w.at r) (w.at r).mark d.view) [])
       keep_newcomer_installs h v d heard part e s of car =
           let a = i.nodes r in
           let b = subst (RowOk carries past w r (w.at r)) e a.row_ok in

@@ -14,7 +14,8 @@ use Rattle.safety.proofs.Fate.{May, Dead}
 use Rattle.safety.proofs.History.{History}
 use Rattle.safety.proofs.History.Event.{records, installs}
 use Rattle.safety.proofs.Lists.{Was}
-use Rattle.safety.proofs.Marks.{Reaches}
+use Rattle.safety.proofs.Marks.{}
+use Rattle.stores.specs.Facts.{Marked}
 use Rattle.safety.proofs.Promises.{Promise}
 
 -- q has recorded under stamps below s only
@@ -74,7 +75,7 @@ module _ (carries : ℕ → ℕ → Bool) where
     pub component_mark : (k V : ℕ) → x.component ≡ Some (view k V) → (x.mark ≡ Some (number k)) ⊎ (x.mark ≡ Some (number (suc k)))
     pub recorded_mark : (n X s : ℕ) → x.recorded ≡ Some (recorded n X s) → x.mark ≡ Some (number n)
     -- what it recorded as a member shows in its mark and top stamp, and it is in the set
-    pub marked : (k s X : ℕ) → In (records q k s X) past → Reaches x.mark (suc k)
+    pub marked : (k s X : ℕ) → In (records q k s X) past → Marked x.mark (suc k)
     pub topped : (k s X : ℕ) → In (records q k s X) past → s ≤ x.top.0
     pub within : (k s X : ℕ) → In (records q k s X) past → has X q ≡ true
     -- beside a component view it holds only what it recorded as its member

@@ -1,5 +1,6 @@
 -- Taking up a head, telling the state, and what a newcomer records and clears. Assumes nothing.
 use Rattle.std.proofs.Common.{◌≡◌, ℕ, suc, ◌<◌, Bool, true, false, List, [], ◌∷◌, Some, None, sym, refl, ap, ◌∙◌, subst, inl, inr, ⊎_elim, arith}
+use Rattle.std.proofs.lemmas.Bool.{false≢true}
 use Rattle.quorum.specs.Members.{has}
 use Rattle.stores.specs.declared.view.Head.{Head}
 use Rattle.stores.specs.declared.view.View.{View}
@@ -12,7 +13,7 @@ use Rattle.safety.specs.Runs.{World}
 use Rattle.safety.proofs.Fate.{head_of, May}
 use Rattle.safety.proofs.History.{History}
 use Rattle.safety.proofs.Invariant.{NodeOk, MessageOk, Invariant}
-use Rattle.safety.proofs.Marks.{none_some, false_true, some_inj, recorded_inj, mark_at, raise_keeps, raise_is}
+use Rattle.safety.proofs.Marks.{none_some, some_inj, recorded_inj, mark_at, raise_keeps, raise_is}
 use Rattle.safety.proofs.Worlds.{put}
 use Rattle.safety.proofs.Quiet.{silent, quiet, at_row, at_free}
 use Rattle.safety.proofs.Stays.{node_stays}
@@ -66,7 +67,7 @@ module _ (carries : ℕ → ℕ → Bool) (first : View) (past : History) (w : W
         both = λ k V n X s e f. absurd (none_some f);
         chose = λ k V s X e f. absurd (none_some (sym c ∙ e));
         known = a.known;
-        free = λ n. absurd (false_true n);
+        free = λ n. absurd (false≢true n);
         row_ok = tt;
       })
       (λ m e. absurd e)
@@ -88,7 +89,7 @@ module _ (carries : ℕ → ℕ → Bool) (first : View) (past : History) (w : W
         both = λ k V n X s u. absurd (none_some (sym none ∙ u));
         chose = λ k V s X u. absurd (none_some (sym none ∙ u));
         known = a.known;
-        free = λ n. absurd (false_true n);
+        free = λ n. absurd (false≢true n);
         row_ok = (b.0, b.1, record { reference = b.2.0; holds = refl; all_heard = λ p u. absurd (nobody p u) });
       })
       (λ m u. absurd u)

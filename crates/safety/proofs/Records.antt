@@ -14,7 +14,8 @@ use Rattle.safety.proofs.Fate.{head_of, May, Dead}
 use Rattle.safety.proofs.History.{Event, History, records_inj, records_installs}
 use Rattle.safety.proofs.History.Event.{records, installs}
 use Rattle.safety.proofs.Invariant.{Confirms, RowOk, NodeOk, MessageOk, Rivals, Invariant, Later}
-use Rattle.safety.proofs.Marks.{none_some, view_inj, recorded_inj, mark_inj, mark_at, Reaches, raise_reaches, raise_keeps, raise_is}
+use Rattle.safety.proofs.Marks.{none_some, view_inj, recorded_inj, mark_inj, mark_at, raise_reaches, raise_keeps, raise_is}
+use Rattle.stores.specs.Facts.{Marked}
 use Rattle.safety.proofs.Worlds.{put}
 use Rattle.safety.proofs.Stays.{dead_stays, rival_stays, rooted_stays, later, kept}
 
@@ -80,7 +81,7 @@ module _ (carries : ℕ → ℕ → Bool) (first : View) (past : History) (w : W
       record {
         component_mark = λ j W u. inr (mark_is ∙ ap (λ (y : ℕ). Some (number (suc y))) (same u).0);
         recorded_mark = λ n X s u. mark_is ∙ mark_at (recorded_inj u).0;
-        marked = λ j t Y. elim [ inl u ↦ subst (λ (y : ℕ). Reaches (raise (w.at r).mark (suc k)) (suc y)) (sym (records_inj u).1) (raise_reaches (w.at r).mark (suc k)) | inr u ↦ raise_keeps (w.at r).mark (suc k) (suc j) (a.marked j t Y u) ];
+        marked = λ j t Y. elim [ inl u ↦ subst (λ (y : ℕ). Marked (raise (w.at r).mark (suc k)) (suc y)) (sym (records_inj u).1) (raise_reaches (w.at r).mark (suc k)) | inr u ↦ raise_keeps (w.at r).mark (suc k) (suc j) (a.marked j t Y u) ];
         topped = λ j t Y. elim [ inl u ↦ omega (arith, (records_inj u).2, at_head.1) | inr u ↦ a.topped j t Y u ];
         within = λ j t Y. elim [ inl u ↦ rw (records_inj u).3 at_head.0 | inr u ↦ a.within j t Y u ];
         both = λ j W n Y t u f.

@@ -1,5 +1,6 @@
 -- Moves that change only the row, and the mode. Assumes nothing.
 use Rattle.std.proofs.Common.{◌≡◌, ℕ, suc, Bool, true, false, ◌⊎◌, List, [], Some, None, Option, sym, ap, ◌∙◌, subst, ⊎_elim, arith}
+use Rattle.std.proofs.lemmas.Bool.{false≢true}
 use Rattle.quorum.specs.Members.{has}
 use Rattle.stores.specs.declared.view.Head.{Head}
 use Rattle.stores.specs.declared.view.Recorded.{Recorded}
@@ -13,7 +14,7 @@ use Rattle.safety.specs.Moves.{Empty, Adds}
 use Rattle.safety.specs.Runs.{World}
 use Rattle.safety.proofs.History.{History}
 use Rattle.safety.proofs.Invariant.{GatheringOk, Confirms, PhaseOk, RowOk, Invariant}
-use Rattle.safety.proofs.Marks.{none_some, false_true, some_inj, view_inj}
+use Rattle.safety.proofs.Marks.{none_some, some_inj, view_inj}
 use Rattle.safety.proofs.Promises.{Promise}
 use Rattle.safety.proofs.Worlds.{put}
 use Rattle.safety.proofs.Quiet.{at_row, row_move, free_still, same_head}
@@ -35,10 +36,10 @@ module _ (carries : ℕ → ℕ → Bool) (first : View) (past : History) (w : W
   at_phase h p e = (at_row carries first past w r i (under h p) e).2
 
   pub keep_close : Keeps (leaving (w.at r) idle) []
-  keep_close = row_move carries first past w r i false idle (λ h e. absurd (none_some e)) (λ e. absurd (false_true e)) tt
+  keep_close = row_move carries first past w r i false idle (λ h e. absurd (none_some e)) (λ e. absurd (false≢true e)) tt
 
   pub keep_leave : Keeps (leaving (w.at r) (w.at r).row) []
-  keep_leave = row_move carries first past w r i false (w.at r).row (λ h e. e) (λ e. absurd (false_true e)) (left (w.at r).row (i.nodes r).row_ok)
+  keep_leave = row_move carries first past w r i false (w.at r).row (λ h e. e) (λ e. absurd (false≢true e)) (left (w.at r).row (i.nodes r).row_ok)
     where
       left : (row : Row) → RowOk carries past w r (w.at r) row → RowOk carries past w r (leaving (w.at r) (w.at r).row) row
       left idle a = a

@@ -1,7 +1,7 @@
 -- The set that a word names: {} or {1,2,3}. Assumes nothing.
 use Rattle.std.specs.Prelude.{ℕ, ◌-◌, Bool, if◌then◌else◌, ◌&&◌, List, length, take, drop, Some, None, Option, ◌==◌, nat_le, nat_lt, slice_index, fold}
 use Rattle.std.specs.List.{slice_split}
-use Rattle.quorum.specs.Sets.{either, single}
+use Rattle.quorum.specs.Sets.{nobody_set, either, single}
 use Rattle.quorum.specs.declared.set.ReplicaSet.{ReplicaSet}
 use Rattle.script.specs.Numerals.{reads}
 
@@ -15,16 +15,13 @@ abbrev pub joined : Option ReplicaSet → List ℕ → Option ReplicaSet
 joined None w = None
 joined (Some s) w = with_replica s (reads w)
 
-abbrev pub nobody : ReplicaSet
-nobody = record { 0 = 0 }
-
 -- the words of a text between its commas
 abbrev pub words : List ℕ → List (List ℕ)
 words bs = slice_split (λ b. b == 44) bs
 
 -- the set that a text without braces names: nobody, or those that its words name
 abbrev pub listed : List ℕ → Option ReplicaSet
-listed w = if length w == 0 then Some nobody else fold joined (Some nobody) (words w)
+listed w = if length w == 0 then Some nobody_set else fold joined (Some nobody_set) (words w)
 
 -- a word in braces
 abbrev pub braced : List ℕ → Bool

@@ -1,16 +1,12 @@
 // Calls at one replica, as a script writes them. The readers give `Option`, as those of words do: `parse` names the one error.
-// Each takes its words one by one: an array of them by a size parameter (tried) is not proved yet.
 use super::numerals::{number, number8, number32};
 use super::sets::members;
-use super::words::{end, first_word};
+use super::words::{end, first_word, three_words, two_words};
 use runs::{Call, Work};
 use stores::{Head, Stamp};
 
 fn view(rest: &[u8]) -> Option<Work> {
-    let (replica, rest) = first_word(rest)?;
-    let (stamp, rest) = first_word(rest)?;
-    let (set, rest) = first_word(rest)?;
-    end(rest)?;
+    let (replica, stamp, set) = three_words(rest)?;
     let head = Head {
         stamp: Stamp(number32(stamp)?),
         set: members(set)?,
@@ -19,16 +15,12 @@ fn view(rest: &[u8]) -> Option<Work> {
 }
 
 fn deliver(rest: &[u8]) -> Option<Work> {
-    let (replica, rest) = first_word(rest)?;
-    let (index, rest) = first_word(rest)?;
-    end(rest)?;
+    let (replica, index) = two_words(rest)?;
     Some(Work::Deliver(number8(replica)?, number(index)?))
 }
 
 fn loss(rest: &[u8]) -> Option<Work> {
-    let (replica, rest) = first_word(rest)?;
-    let (lost, rest) = first_word(rest)?;
-    end(rest)?;
+    let (replica, lost) = two_words(rest)?;
     Some(Work::Loss(number8(replica)?, number8(lost)?))
 }
 

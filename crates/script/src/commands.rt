@@ -2,7 +2,7 @@
 use super::calls::{cut, read_work, stop};
 use super::numerals::{number8, number32};
 use super::sets::members;
-use super::words::{content, end, first_word};
+use super::words::{content, end, first_word, three_words, two_words};
 use manager::Need;
 use quorum::ReplicaSet;
 use runs::Call;
@@ -10,7 +10,7 @@ use std::error::Error;
 use std::fmt;
 use stores::{Number, View};
 
-#[derive(Clone, Copy)]
+#[derive(Clone, Copy, PartialEq, Eq, Debug)]
 pub enum Command {
     // A new floor with the count rule.
     FloorCount,
@@ -72,10 +72,7 @@ fn read_need(word: &[u8]) -> Option<Need> {
 }
 
 fn found(rest: &[u8]) -> Option<Command> {
-    let (set, rest) = first_word(rest)?;
-    let (number, rest) = first_word(rest)?;
-    let (need, rest) = first_word(rest)?;
-    end(rest)?;
+    let (set, number, need) = three_words(rest)?;
     let view = View {
         number: Number(number32(number)?),
         set: members(set)?,
@@ -84,9 +81,7 @@ fn found(rest: &[u8]) -> Option<Command> {
 }
 
 fn carries(rest: &[u8]) -> Option<Command> {
-    let (part, rest) = first_word(rest)?;
-    let (set, rest) = first_word(rest)?;
-    end(rest)?;
+    let (part, set) = two_words(rest)?;
     Some(Command::Carries(members(part)?, members(set)?))
 }
 
@@ -117,9 +112,7 @@ fn understand(word: &[u8], rest: &[u8]) -> Option<Command> {
 
 // What a line says; nothing where it is blank. Any bytes may come, and any number of them.
 pub fn parse(line: &[u8]) -> Result<Option<Command>, NotUnderstood> {
-    let Some((word, rest)) = first_word(content(line)) else {
-        return Ok(None);
-    };
-    let command = understand(word, rest).ok_or(NotUnderstood)?;
-    Ok(Some(command))
+    first_word(content(line))
+        .map(|(word, rest)| understand(word, rest).ok_or(NotUnderstood))
+        .transpose()
 }

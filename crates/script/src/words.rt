@@ -29,3 +29,18 @@ pub fn first_word(text: &[u8]) -> Option<(&[u8], &[u8])> {
 pub fn end(rest: &[u8]) -> Option<()> {
     first_word(rest).is_none().then_some(())
 }
+
+// Two words that nothing follows. A function for each number: an array of references by a size parameter (tried) is not proved.
+pub fn two_words(rest: &[u8]) -> Option<(&[u8], &[u8])> {
+    let (first, rest) = first_word(rest)?;
+    let (second, rest) = first_word(rest)?;
+    end(rest)?;
+    Some((first, second))
+}
+
+// Three words that nothing follows.
+pub fn three_words(rest: &[u8]) -> Option<(&[u8], &[u8], &[u8])> {
+    let (first, rest) = first_word(rest)?;
+    let (second, third) = two_words(rest)?;
+    Some((first, second, third))
+}

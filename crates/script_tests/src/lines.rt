@@ -1,151 +1,181 @@
 // Lines: which command each one says.
 use manager::Need;
+use quorum::ReplicaSet;
 use runs::{Call, Work};
 use script::{Command, NotUnderstood, parse};
 use std::process::Abort;
-use std::test::Fail;
+use stores::{Head, Number, Stamp, View};
 
-fn work_kind(work: Work) -> &'static str {
-    match work {
-        Work::View(_, _) => "view",
-        Work::Deliver(_, _) => "deliver",
-        Work::Loss(_, _) => "loss",
-        Work::Start(_) => "start",
-    }
+fn check(rt: &impl Abort, line: &str, expected: Result<Option<Command>, NotUnderstood>) {
+    assert_eq!(rt; parse(line.as_bytes()), expected, "{}", line);
 }
 
-fn call_kind(call: Call) -> &'static str {
-    match call {
-        Call::Whole(work) => work_kind(work),
-        Call::Cut(_, _) => "cut",
-        Call::Stop(_) => "stop",
-    }
+fn check_command(rt: &impl Abort, line: &str, expected: Command) {
+    check(rt, line, Ok(Some(expected)));
 }
 
-// A line's kind, for comparing.
-fn kind(line: &[u8]) -> &'static str {
-    match parse(line) {
-        Ok(None) => "blank",
-        Err(NotUnderstood) => "unknown",
-        Ok(Some(Command::FloorCount)) => "count",
-        Ok(Some(Command::FloorWeight(_))) => "weight",
-        Ok(Some(Command::Found(_, Need::One))) => "found one",
-        Ok(Some(Command::Found(_, Need::MoreThanHalf))) => "found half",
-        Ok(Some(Command::Call(call))) => call_kind(call),
-        Ok(Some(Command::Carries(_, _))) => "carries",
-        Ok(Some(Command::Account)) => "account",
-    }
+fn check_call(rt: &impl Abort, line: &str, expected: Call) {
+    check_command(rt, line, Command::Call(expected));
 }
 
-fn check_kind(rt: &impl Abort, line: &str, expected: &str) {
-    assert_eq!(rt; kind(line.as_bytes()), expected, "{}", line);
+fn check_work(rt: &impl Abort, line: &str, expected: Work) {
+    check_call(rt, line, Call::Whole(expected));
 }
 
 #[test]
 fn blank(rt: HostRuntime) {
-    check_kind(&rt, "", "blank");
-    check_kind(&rt, "\n", "blank");
-    check_kind(&rt, " \t \r\n", "blank");
-    check_kind(&rt, "# floor count\n", "blank");
-    check_kind(&rt, "  # # floor\n", "blank");
+    for line in &["", "\n", " \t \r\n", "# floor count\n", "  # # floor\n"] {
+        check(&rt, line, Ok(None));
+    }
 }
 
 #[test]
 fn understood(rt: HostRuntime) {
-    check_kind(&rt, "floor count\n", "count");
-    check_kind(&rt, "floor count", "count");
-    check_kind(&rt, "\tfloor\t count \r\n", "count");
-    check_kind(&rt, "floor count# the rest is a comment\n", "count");
-    check_kind(
+    check_command(&rt, "floor count\n", Command::FloorCount);
+    check_command(&rt, "floor count", Command::FloorCount);
+    check_command(&rt, "\tfloor\t count \r\n", Command::FloorCount);
+    check_command(
+        &rt,
+        "floor count# the rest is a comment\n",
+        Command::FloorCount,
+    );
+    check_command(
         &rt,
         "floor weight 1 2 3 4 5 6 7 8 9 10 11 12 13 14 15 255\n",
-        "weight",
+        Command::FloorWeight([1, 2, 3, 4, 5, 6, 7, 8, 9, 10, 11, 12, 13, 14, 15, 255]),
     );
-    check_kind(
+    check_command(
         &rt,
         "floor weight 0 0 0 0 0 0 0 0 0 0 0 0 0 0 0 0\n",
-        "weight",
+        Command::FloorWeight([0; 16]),
     );
-    check_kind(&rt, "carries {1} {1,2}\n", "carries");
-    check_kind(&rt, "account\n", "account");
+    check_command(
+        &rt,
+        "carries {1} {1,2}\n",
+        Command::Carries(ReplicaSet(0b10), ReplicaSet(0b110)),
+    );
+    check_command(&rt, "account\n", Command::Account);
 }
 
 #[test]
 fn not_understood(rt: HostRuntime) {
-    check_kind(&rt, "floor\n", "unknown");
-    check_kind(&rt, "Floor count\n", "unknown");
-    check_kind(&rt, "floorcount\n", "unknown");
-    check_kind(&rt, "floor count now\n", "unknown");
-    check_kind(
-        &rt,
+    for line in &[
+        "floor\n",
+        "Floor count\n",
+        "floorcount\n",
+        "floor count now\n",
         "floor weight 1 2 3 4 5 6 7 8 9 10 11 12 13 14 15\n",
-        "unknown",
-    );
-    check_kind(
-        &rt,
         "floor weight 1 2 3 4 5 6 7 8 9 10 11 12 13 14 15 16 17\n",
-        "unknown",
-    );
-    check_kind(
-        &rt,
         "floor weight 1 2 3 4 5 6 7 8 9 10 11 12 13 14 15 256\n",
-        "unknown",
-    );
-    check_kind(&rt, "carries {1}\n", "unknown");
-    check_kind(&rt, "carries {1} {2} {3}\n", "unknown");
-    check_kind(&rt, "carries {1, 2} {1}\n", "unknown");
-    check_kind(&rt, "account now\n", "unknown");
-    assert_eq!(rt; kind(&[0, 255, 10]), "unknown");
+        "carries {1}\n",
+        "carries {1} {2} {3}\n",
+        "carries {1, 2} {1}\n",
+        "account now\n",
+    ] {
+        check(&rt, line, Err(NotUnderstood));
+    }
+    assert_eq!(rt; parse(&[0, 255, 10]), Err(NotUnderstood));
 }
 
-// The weights and sets of a line are those that it names, in order.
-#[test]
-fn operands(rt: HostRuntime) -> Result<(), Fail> {
-    let Ok(Some(Command::FloorWeight(weights))) = parse(
-        b"floor weight 1 2 3 4 5 6 7 8 9 10 11 12 13 14 15 255\n",
-    ) else {
-        return Err(Fail::new("sixteen weights"));
+fn check_founding(rt: &impl Abort, line: &str, number: u32, set: ReplicaSet, need: Need) {
+    let view = View {
+        number: Number(number),
+        set,
     };
-    assert_eq!(rt;
-        weights,
-        [1, 2, 3, 4, 5, 6, 7, 8, 9, 10, 11, 12, 13, 14, 15, 255]
-    );
-    let Ok(Some(Command::Carries(part, set))) = parse(b"carries {1} {1,2}\n") else {
-        return Err(Fail::new("two sets"));
-    };
-    assert_eq!(rt; part.0, 0b10);
-    assert_eq!(rt; set.0, 0b110);
-    Ok(())
+    check_command(rt, line, Command::Found(view, need));
 }
 
 #[test]
 fn founding(rt: HostRuntime) {
-    check_kind(&rt, "found {1,2,3} 7 one\n", "found one");
-    check_kind(
+    check_founding(
+        &rt,
+        "found {1,2,3} 7 one\n",
+        7,
+        ReplicaSet(0b1110),
+        Need::One,
+    );
+    check_founding(
+        &rt,
+        "found {1,2} 7 half\n",
+        7,
+        ReplicaSet(0b110),
+        Need::MoreThanHalf,
+    );
+    check_founding(
         &rt,
         "found {} 4294967295 half # too high, but a number\n",
-        "found half",
+        u32::MAX,
+        ReplicaSet::EMPTY,
+        Need::MoreThanHalf,
     );
-    check_kind(&rt, "found {1,2,3} 4294967296 one\n", "unknown");
-    check_kind(&rt, "found {1,2,3} one\n", "unknown");
-    check_kind(&rt, "found {1,2,3} 7\n", "unknown");
-    check_kind(&rt, "found {1,2,3} 7 two\n", "unknown");
-    check_kind(&rt, "found 7 {1,2,3} one\n", "unknown");
-    check_kind(&rt, "found {1,2,3} 7 one half\n", "unknown");
 }
 
 #[test]
+fn no_foundings(rt: HostRuntime) {
+    for line in &[
+        "found {1,2,3} 4294967296 one\n",
+        "found {1,2,3} one\n",
+        "found {1,2,3} 7\n",
+        "found {1,2,3} 7 two\n",
+        "found 7 {1,2,3} one\n",
+        "found {1,2,3} 7 one half\n",
+    ] {
+        check(&rt, line, Err(NotUnderstood));
+    }
+}
+
+// Stamp 40 and the set {1,2,6}.
+const FORTY: Head = Head {
+    stamp: Stamp(40),
+    set: ReplicaSet(0b100_0110),
+};
+
+const HIGHEST_OF_NOBODY: Head = Head {
+    stamp: Stamp(u32::MAX),
+    set: ReplicaSet::EMPTY,
+};
+
+#[test]
 fn calls(rt: HostRuntime) {
-    check_kind(&rt, "view 1 40 {1,2,6}\n", "view");
-    check_kind(&rt, "view 255 4294967295 {}\n", "view");
-    check_kind(&rt, "deliver 1 18446744073709551615\n", "deliver");
-    check_kind(&rt, "loss 1 255\n", "loss");
-    check_kind(&rt, "stop 1\n", "stop");
-    check_kind(&rt, "start 0001\n", "start");
-    check_kind(&rt, "cut 0 view 1 40 {1,2,6}\n", "cut");
-    check_kind(&rt, "cut 18446744073709551615 deliver 1 0\n", "cut");
-    check_kind(&rt, "cut 3 loss 1 2\n", "cut");
-    check_kind(&rt, "cut 3 start 1\n", "cut");
+    check_work(&rt, "view 1 40 {1,2,6}\n", Work::View(1, FORTY));
+    check_work(
+        &rt,
+        "view 255 4294967295 {}\n",
+        Work::View(255, HIGHEST_OF_NOBODY),
+    );
+    check_work(
+        &rt,
+        "deliver 1 18446744073709551615\n",
+        Work::Deliver(1, u64::MAX),
+    );
+    check_work(
+        &rt,
+        "deliver 2 18446744073709551615\n",
+        Work::Deliver(2, u64::MAX),
+    );
+    check_work(&rt, "loss 1 255\n", Work::Loss(1, 255));
+    check_work(&rt, "loss 3 255\n", Work::Loss(3, 255));
+    check_work(&rt, "start 0001\n", Work::Start(1));
+    check_work(&rt, "start 4\n", Work::Start(4));
+    check_call(&rt, "stop 1\n", Call::Stop(1));
+    check_call(&rt, "stop 6\n", Call::Stop(6));
+}
+
+#[test]
+fn cuts(rt: HostRuntime) {
+    check_call(
+        &rt,
+        "cut 0 view 1 40 {1,2,6}\n",
+        Call::Cut(Work::View(1, FORTY), 0),
+    );
+    check_call(
+        &rt,
+        "cut 18446744073709551615 deliver 1 0\n",
+        Call::Cut(Work::Deliver(1, 0), u64::MAX),
+    );
+    check_call(&rt, "cut 3 loss 1 2\n", Call::Cut(Work::Loss(1, 2), 3));
+    check_call(&rt, "cut 9 loss 3 5\n", Call::Cut(Work::Loss(3, 5), 9));
+    check_call(&rt, "cut 3 start 1\n", Call::Cut(Work::Start(1), 3));
 }
 
 // A number that does not fit, too few operands, or too many.
@@ -171,7 +201,7 @@ fn no_calls(rt: HostRuntime) {
         "start -1\n",
         "start 1 2\n",
     ] {
-        check_kind(&rt, line, "unknown");
+        check(&rt, line, Err(NotUnderstood));
     }
 }
 
@@ -191,56 +221,6 @@ fn no_cuts(rt: HostRuntime) {
         "cut 1 start 1 1\n",
         "cut 1 view 1 40\n",
     ] {
-        check_kind(&rt, line, "unknown");
+        check(&rt, line, Err(NotUnderstood));
     }
-}
-
-// The work's operands in order, a set by its bits.
-fn listed(work: Work) -> [u64; 3] {
-    match work {
-        Work::View(replica, head) => [
-            u64::from(replica),
-            u64::from(head.stamp.0),
-            u64::from(head.set.0),
-        ],
-        Work::Deliver(replica, index) => [u64::from(replica), index, 0],
-        Work::Loss(replica, lost) => [u64::from(replica), u64::from(lost), 0],
-        Work::Start(replica) => [u64::from(replica), 0, 0],
-    }
-}
-
-fn check_work(rt: &impl Abort, line: &str, expected: [u64; 3]) -> Result<(), Fail> {
-    let Ok(Some(Command::Call(Call::Whole(work)))) = parse(line.as_bytes()) else {
-        return Err(Fail::new(line));
-    };
-    assert_eq!(rt; listed(work), expected, "{}", line);
-    Ok(())
-}
-
-#[test]
-fn call_operands(rt: HostRuntime) -> Result<(), Fail> {
-    check_work(&rt, "view 1 40 {1,2,6}\n", [1, 40, 0b100_0110])?;
-    check_work(&rt, "view 255 4294967295 {}\n", [255, 4_294_967_295, 0])?;
-    check_work(&rt, "deliver 2 18446744073709551615\n", [2, u64::MAX, 0])?;
-    check_work(&rt, "loss 3 255\n", [3, 255, 0])?;
-    check_work(&rt, "start 4\n", [4, 0, 0])
-}
-
-#[test]
-fn cut_and_founding_operands(rt: HostRuntime) -> Result<(), Fail> {
-    let Ok(Some(Command::Call(Call::Cut(work, writes)))) = parse(b"cut 9 loss 3 5\n") else {
-        return Err(Fail::new("a cut"));
-    };
-    assert_eq!(rt; writes, 9);
-    assert_eq!(rt; listed(work), [3, 5, 0]);
-    let Ok(Some(Command::Call(Call::Stop(replica)))) = parse(b"stop 6\n") else {
-        return Err(Fail::new("a stop"));
-    };
-    assert_eq!(rt; replica, 6);
-    let Ok(Some(Command::Found(view, _))) = parse(b"found {1,2} 7 half\n") else {
-        return Err(Fail::new("a founding"));
-    };
-    assert_eq!(rt; view.set.0, 0b110);
-    assert_eq!(rt; view.number.0, 7);
-    Ok(())
 }

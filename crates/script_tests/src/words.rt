@@ -1,5 +1,4 @@
 // Numbers and sets: what a word reads as.
-use quorum::ReplicaSet;
 use script::{members, number, number8, number32};
 use std::process::Abort;
 use std::test::Fail;

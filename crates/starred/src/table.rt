@@ -14,7 +14,8 @@ use stores::{Number, View};
 pub enum Example {
     // By the count rule, whether the part carries the set.
     Count(ReplicaSet, ReplicaSet, bool),
-    // The same where replica 1 weighs 5 and each other 1. A case for each rule, as the table's lines name them.
+    // The same where replica 1 weighs 5 and each other 1. A case for each rule: with the rule as a value the table could hold none of
+    // weights, which may be refused where it is made.
     Weight(ReplicaSet, ReplicaSet, bool),
     // How the round ends, and the view that it settles on.
     Ends(Round, Outcome, Option<View>),
@@ -33,13 +34,15 @@ impl Example {
     }
 }
 
+// Replica 1 weighs 5, each other 1.
+const HEAVY: [u8; 16] = [1, 5, 1, 1, 1, 1, 1, 1, 1, 1, 1, 1, 1, 1, 1, 1];
+
+// No weight is zero, so the rule is not refused.
+#[tactic(auto, unfolding(quorum::specs::Below::any))]
 fn heavy_carries(part: ReplicaSet, set: ReplicaSet) -> bool
     ensures { result ≡ majority (listed heavy) part.0 set.0 }
 {
-    let Ok(rule) = WeightRule::new([1, 5, 1, 1, 1, 1, 1, 1, 1, 1, 1, 1, 1, 1, 1, 1]) else {
-        return false;
-    };
-    rule.carries(part, set)
+    WeightRule::new(HEAVY).is_ok_and(|rule| rule.carries(part, set))
 }
 
 // Bit r of a set stands for replica r.

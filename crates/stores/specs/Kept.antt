@@ -1,5 +1,6 @@
 -- What a store means, sixteen pages and a count of places, and what its calls leave. Assumes nothing.
-use Rattle.std.specs.Prelude.{◌≡◌, ℕ, ◌+◌, ◌<◌, ◌≤◌, true, ◌⊎◌, List, Some, None, Ok, Err, Result, ◌==◌, if◌then◌else◌, slice_index_or, slice_set}
+use Rattle.std.specs.Prelude.{◌≡◌, ℕ, ◌+◌, ◌<◌, ◌≤◌, true, ◌⊎◌, List, None, Ok, Err, Result, ◌==◌, if◌then◌else◌, slice_index_or, slice_set}
+use Rattle.quorum.specs.Faults.{refused_at}
 use Rattle.quorum.specs.declared.fault.Fault.{Fault}
 use Rattle.quorum.specs.declared.fault.Layer.TheVariants.{Store}
 use Rattle.quorum.specs.declared.fault.Reason.TheVariants.{NoPlace}
@@ -25,7 +26,7 @@ Spent before after = (after ≤ before) × (before ≤ after + 1)
 
 -- the store's one refusal
 abbrev pub no_place : ℕ → Fault
-no_place r = record { reason = NoPlace; replica = Some r; layer = Store }
+no_place r = refused_at Store NoPlace r
 
 -- refused, for want of a place: nothing changed
 pub record Refused (xs : List Page) (n : ℕ) (ys : List Page) (m : ℕ) (r : ℕ) (e : Fault) : Type 0 where

@@ -24,27 +24,21 @@ abbrev pub CutLeaves : (ℕ → Page → Page → Page → Type 0) → Option �
 CutLeaves leaves None old new q = Unit {0}
 CutLeaves leaves (Some n) old new q = leaves n old new q
 
--- of a writing at the replica asked for: the new page or, where it was cut off, the new or the old; of any other, the old
-abbrev pub Latest : Bool → Option ℕ → Type 0 → Type 0 → Type 0
-Latest false cut new old = old
-Latest true None new old = new
-Latest true (Some n) new old = new ⊎ old
-
--- q may be read at replica r once the first n writings are carried out, where p was read before them
-unfoldable pub MayRead : ℕ → Page → List Writing → ℕ → Page → Type 0
-MayRead r p ws zero q = q ≡ p
-MayRead r p ws (suc n) q = Latest ((writing_at ws n).replica == r) (writing_at ws n).cut (q ≡ (writing_at ws n).page) (MayRead r p ws n q)
-
 -- the page that is read after a writing: of a write at the replica asked for, the new one; of a cut there, one that it may leave
 abbrev pub LeftAfter : (ℕ → Page → Page → Page → Type 0) → Bool → Option ℕ → Page → (Page → Type 0) → Page → Type 0
 LeftAfter leaves false cut new Old q = Old q
 LeftAfter leaves true None new Old q = q ≡ new
 LeftAfter leaves true (Some n) new Old q = (old : Page) × Old old × leaves n old new q
 
--- the same, by what the store says of its cuts: `leaves n old new q` says that a cut at n may leave q
+-- q may be read at replica r once the first n writings are carried out, where p was read before them, by what the store says of
+-- its cuts: `leaves n old new q` says that a cut at n may leave q
 unfoldable pub Left : (ℕ → Page → Page → Page → Type 0) → ℕ → Page → List Writing → ℕ → Page → Type 0
 Left leaves r p ws zero q = q ≡ p
 Left leaves r p ws (suc n) q = LeftAfter leaves ((writing_at ws n).replica == r) (writing_at ws n).cut (writing_at ws n).page (Left leaves r p ws n) q
+
+-- the same of any store, whose cuts may all leave the old page or the new one
+abbrev pub MayRead : ℕ → Page → List Writing → ℕ → Page → Type 0
+MayRead r p ws n q = Left (λ _ old new x. (x ≡ old) ⊎ (x ≡ new)) r p ws n q
 
 -- held pages take every write, and a cut after one byte-write or more
 abbrev pub taken : Option ℕ → Bool

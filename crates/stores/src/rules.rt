@@ -60,9 +60,8 @@ fn recorded_fits(replica: u8, top: Stamp, mark: Option<Number>, recorded: Option
 fn numbers_follow(component: Option<View>, recorded: Option<Recorded>) -> bool
     ensures { result ≡ numbers_follow component recorded }
 {
-    component.zip(recorded).is_none_or(|(view, next)| {
-        u64::from(next.view.number.0) == u64::from(view.number.0) + 1
-    })
+    component.zip(recorded).is_none_or(|(view, recorded)| u64::from(recorded.view.number.0)
+        == view.number.next())
 }
 
 impl Page {

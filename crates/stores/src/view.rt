@@ -1,4 +1,6 @@
 // Views, their numbers, and the stamps of the view maker's announcements.
+ghost use Rattle.std.specs.Prelude.{◌≡◌, ◌+◌};
+
 use quorum::ReplicaSet;
 
 // Names one announcement of the view maker. A struct of its own beside `Number`: the two are never compared or added together.
@@ -32,4 +34,11 @@ pub struct Head {
 
 impl Number {
     pub const HIGHEST: Number = Number(1_000_000_000);
+
+    // The number after it, in 64 bits, since a message may tell any number.
+    pub fn next(self) -> u64
+        ensures { result ≡ self.0 + 1 }
+    {
+        u64::from(self.0) + 1
+    }
 }

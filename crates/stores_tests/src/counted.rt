@@ -1,6 +1,7 @@
 // A store that counts its places down, to show that the promises of a store are not those of held pages alone.
-ghost use Rattle.std.specs.Prelude.{◌≡◌, length, replicate, IfOk, if◌then◌else◌, nat_le};
-ghost use Rattle.stores.specs.Kept.{fresh, Sound};
+ghost use Rattle.std.specs.Prelude.{◌≡◌, ◌==◌, length, replicate, IfOk, if◌then◌else◌, nat_le};
+ghost use Rattle.quorum.specs.Faults.{allowed, refused_if};
+ghost use Rattle.stores.specs.Kept.{fresh, no_place, Sound};
 
 use quorum::{Fault, Layer, Reason, Replica, refuse_if};
 use std::alloc::{AllocError, Global};
@@ -23,6 +24,15 @@ impl CountedPages {
         let pages = Vec::from_slice(heap, &[Page::fresh(); 16])?;
         Ok(CountedPages { pages, left })
     }
+
+    fn check_place(&self, replica: Replica) -> Result<(), Fault>
+        ensures { result ≡ allowed (refused_if (self.now.left == 0) (no_place replica)) }
+    {
+        refuse_if(
+            self.left == 0,
+            Reason::NoPlace.at(replica.number(), Layer::Store),
+        )
+    }
 }
 
 impl Store for CountedPages {
@@ -44,8 +54,7 @@ impl Store for CountedPages {
 
     // Every write uses a place.
     fn write(&mut self, kept: KeptPage) -> Result<(), Fault> {
-        let no_place = Reason::NoPlace.at(kept.replica.number(), Layer::Store);
-        refuse_if(self.left == 0, no_place)?;
+        self.check_place(kept.replica)?;
         self.left -= 1;
         self.pages[kept.replica.index()] = kept.page;
         Ok(())
@@ -57,8 +66,7 @@ impl Breakable for CountedPages {
 
     // A write takes eight byte-writes, and has its place from the fourth on.
     fn cut(&mut self, kept: KeptPage, n: u64) -> Result<(), Fault> {
-        let no_place = Reason::NoPlace.at(kept.replica.number(), Layer::Store);
-        refuse_if(self.left == 0, no_place)?;
+        self.check_place(kept.replica)?;
         if n >= 4 {
             self.left -= 1;
         }

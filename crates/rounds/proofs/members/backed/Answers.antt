@@ -10,7 +10,7 @@ use Rattle.quorum.specs.Below.{first}
 use Rattle.stores.specs.declared.view.Recorded.{Recorded}
 use Rattle.rounds.specs.Members.{holders, if_carried}
 use Rattle.rounds.specs.Reports.{reported, recorded_of}
-use Rattle.rounds.proofs.Chains.{find_there, flatten_yields}
+use Rattle.quorum.proofs.Chains.{find_there, flatten_yields}
 use Rattle.rounds.proofs.members.backed.Goals as goal
 
 pub returns : goal.returns

@@ -3,7 +3,7 @@ use Rattle.std.proofs.lemmas.Iterator.Consumers.{YieldsList-at, YieldsList-from_
 use borrow.Author.Tests.{tests}
 use Rattle.std.specs.Slice.Iter.{iter_rest}
 use Rattle.rounds.specs.Presumed.{Highest}
-use Rattle.rounds.proofs.Chains.{flatten_yields, reduce_yields}
+use Rattle.quorum.proofs.Chains.{flatten_yields, reduce_yields}
 use Rattle.rounds.proofs.Highest.{pick, reduced_highest, highest_presumed}
 use Rattle.rounds.proofs.presumed.presumed.Goals as goal
 

@@ -1,9 +1,9 @@
 use Rattle.std.proofs.Common.{below_none, below_more}
-use Rattle.stores.proofs.Reading.{may_read_none, may_read_more, left_none, left_more}
+use Rattle.stores.proofs.Reading.{may_read_more, left_none, left_more}
 use Rattle.stores.proofs.replay.carry_out.Goals as goal
 
 pub loop-done-init : goal.loop-done-init
-loop-done-init g c = (below_none _, λ r l. may_read_none r _ _, λ r l. left_none _ r _ _)
+loop-done-init g c = (below_none _, λ r l. left_none _ r _ _, λ r l. left_none _ r _ _)
 
 pub loop-done-preserved : goal.loop-done-preserved
 loop-done-preserved g c =

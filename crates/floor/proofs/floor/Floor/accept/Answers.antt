@@ -3,7 +3,6 @@ use Rattle.std.proofs.lemmas.Result.{err_from_is_err_and}
 use Rattle.quorum.specs.declared.fault.Fault.{Fault}
 use Rattle.manager.specs.Calls.{page_left}
 use Rattle.manager.specs.Effects.{Effect}
-use Rattle.runs.specs.Founding.{row_at}
 use Rattle.runs.specs.World.{World}
 use Rattle.stores.specs.Rules.{keeps_rules}
 use Rattle.floor.specs.Tasks.{lent}
@@ -45,6 +44,6 @@ returns-clause-asked g c =
     let w : World = world g.S.Store.pages g.S.Store.places c.args.self.now c.args.post.now in
     let task = c.in_ok-replica in
     let left = ap (λ s. world g.S.Store.pages g.S.Store.places s c.args.post.now) c.lend.ensures.floor in
-    let before = c.row-before.ensures.value (empty_row false) ∙ ap (row_at w.rows) c.index.ensures.value in
+    let before = c.row-before.ensures.value (empty_row false) in
     asked_done (g.R.QuorumRule.carries c.args.self.now.rule) w c.args.work task.replica task.task _ task.ensures c.read-page.ensures
     _ _ c.in_ok-answer.ensures.answer refl c.lend.ensures.page before c.wants_room.ensures left

@@ -1,7 +1,7 @@
 use Rattle.std.proofs.lemmas.Result.{err_from_is_err_and}
 use Rattle.runs.specs.World.{World}
 use Rattle.floor.specs.Worlds.{world}
-use Rattle.floor.proofs.Ruled.{ruled_refused, break_refused, break_done}
+use Rattle.floor.proofs.Ruled.{ruled_refused, break_refused, break_done, break_leaves}
 use Rattle.floor.proofs.floor.Floor.cut_off.Goals as goal
 
 pub returns-in_err-accepted-clause-cut : goal.returns-in_err-accepted-clause-cut
@@ -27,3 +27,11 @@ returns-clause-cut g c =
     let broke = c.in_ok-break_off.ensures in
     let done = break_done f _ _ c.args.work told.0 c.in_ok-accepted.accepted told.1 told.2 _ broke.test broke.broken in
     (told.0, done.0, c.quiet.ensures, done.1)
+
+pub returns-clause-left : goal.returns-clause-left
+returns-clause-left g c =
+    let f = g.R.QuorumRule.carries c.args.self.now.rule in
+    let told = c.in_ok-accepted.ensures.asked in
+    let broke = c.in_ok-break_off.ensures in
+    let v : World = world g.S.Store.pages g.S.Store.places c.break_off.new.self c.args.post.now in
+    break_leaves f _ _ c.args.work told.0 c.in_ok-accepted.accepted told.1 told.2 g.S.Breakable.leaves c.args.n v broke.test broke.left

@@ -7,7 +7,8 @@ pub loop-call-preserved : goal.loop-call-preserved
 loop-call-preserved g c =
     let now = c.loop-call.invariant in
     let step = rw now.1 at c.step.ensures.step in
-    (ran_more _ _ _ _ c.args.calls.now c.loop-call.call-index _ c.step.result c.loop-call-test.true now.0 step, c.step.ensures.rule ∙ now.1)
+    let cut = rw now.1 at c.step.ensures.cut in
+    (ran_more _ _ _ _ _ c.args.calls.now c.loop-call.call-index _ c.step.result c.loop-call-test.true now.0 step cut, c.step.ensures.rule ∙ now.1)
 
 pub returns-clause-ran : goal.returns-clause-ran
 returns-clause-ran g c = rw (take_all c.loop-call.call-index c.args.calls.now c.loop-call-test.false) at c.loop-call.invariant.0

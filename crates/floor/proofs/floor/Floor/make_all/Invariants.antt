@@ -6,7 +6,7 @@ use Rattle.floor.proofs.floor.Floor.make_all.Given as goal
 -- the calls made so far are a run
 abbrev pub invariant-loop-call : goal.invariant-loop-call
 invariant-loop-call g l =
-    Ran (g.R.QuorumRule.carries l.initial.self.rule)
+    Ran g.S.Breakable.leaves (g.R.QuorumRule.carries l.initial.self.rule)
     (world g.S.Store.pages g.S.Store.places l.initial.self (vec_items l.initial.post))
     (world g.S.Store.pages g.S.Store.places l.self (vec_items l.post))
     (take l.call-index l.calls)

@@ -1,24 +1,25 @@
--- The reports in turn, as a chain over them gives them: what `any`, `find` and `reduce` answer, said by replica. Assumes nothing.
-use Rattle.std.proofs.Common.{◌≡◌, ℕ, zero, suc, Bool, true, false, cond, ◌||◌, List, [], ◌∷◌, length, get_or, Some, None, Option, sym, refl, ap, ◌∙◌, ap₂, subst, IsTrue, MatchBool, MatchOption}
+-- What is there of a list of options, as a chain over it gives it: what `any`, `find` and `reduce` answer, said by place. Assumes nothing.
+use Rattle.std.proofs.Common.{◌≡◌, ℕ, zero, suc, ◌<◌, min, Bool, true, false, cond, ◌||◌, List, [], ◌∷◌, length, get_or, Some, None, Option, sym, refl, ap, ◌∙◌, ap₂, subst, IsTrue, MatchBool, MatchOption, zip, arith}
 use Rattle.std.proofs.lemmas.Iterator.{YieldsList, YieldsList-from_slice}
 use Rattle.std.proofs.lemmas.Iterator.Adapters.{YieldsList-from_flatten}
 use Rattle.std.proofs.lemmas.Iterator.Consumers.{YieldsList-from_shown, reduce_from_yields_List}
 use Rattle.std.proofs.lemmas.Bool.{false≢true}
+use Rattle.std.proofs.lemmas.Slice.Zip.{length-zip, get_or-zip}
 use Rattle.std.proofs.Math.Bool.{or_assoc, or-false}
 use Rattle.std.specs.Iterator.Adapters.{option_iter_item, option_iter_done, option_iter_steps, flatten_source, flatten_front, flatten_back, flatten_done, flatten_steps}
 use Rattle.std.specs.List.{flat_map, list_any, find, filter_map, cons_option, FoldsTo, reduce}
-use Rattle.std.specs.Option.{option_to_list}
+use Rattle.std.specs.Option.{option_to_list, option_or}
 use Rattle.std.specs.Slice.Iter.{iter_rest}
 use Rattle.std.proofs.iter.Yields.{fronts}
 use denote.Ref.{Bor}
 use denote.Param.Members.{Mut}
 use Rattle.std.specs.Fn.{Called}
 use Rattle.std.specs.Iterator.{FoldTurn, ReducesItems, Drains}
-use Rattle.std.specs.Option.{option_or}
 use Rattle.quorum.specs.Below.{any, first}
-use Rattle.rounds.specs.Reports.{present}
+use Rattle.quorum.specs.Members.{everybody}
+use Rattle.quorum.proofs.Below.{everybody_at, length-everybody}
 
--- ---- `any` and `first` from the lowest replica on, as a chain goes
+-- ---- `any` and `first` from the lowest place on, as a chain goes
 any_front : (f : ℕ → Bool) (n : ℕ) → any f (suc n) ≡ (f 0 || any (λ k. f (suc k)) n)
 unfolding any
 any_front f zero = sym (or-false (f 0))
@@ -27,6 +28,23 @@ any_front f (suc n) = ap (λ b. b || f (suc n)) (any_front f n) ∙ or_assoc (f 
 any_zero : (f : ℕ → Bool) → any f 0 ≡ false
 unfolding any
 any_zero f = refl
+
+-- a test of each element, by its place
+list_any-places : {A : Type 0} (p : A → Bool) (d : A) (xs : List A) → list_any p xs ≡ any (λ k. p (get_or xs k d)) (length xs)
+list_any-places p d [] = sym (any_zero _)
+list_any-places p d (x ∷ xs) = ap (λ b. p x || b) (list_any-places p d xs) ∙ sym (any_front (λ k. p (get_or (x ∷ xs) k d)) (length xs))
+
+any_alike : (f g : ℕ → Bool) (n : ℕ) → ((k : ℕ) → k < n → f k ≡ g k) → any f n ≡ any g n
+unfolding any
+any_alike f g zero h = refl
+any_alike f g (suc n) h = ap₂ ◌||◌ (any_alike f g n (λ k l. h k (omega arith))) (h n (omega arith))
+
+-- of sixteen things, each beside its replica
+pub any_beside : {A : Type 0} (p : ℕ × A → Bool) (d : A) (xs : List A) → length xs ≡ 16 → list_any p (zip everybody xs) ≡ any (λ q. p (q, get_or xs q d)) 16
+any_beside p d xs l =
+    let all : length (zip everybody xs) ≡ 16 = length-zip everybody xs ∙ ap₂ min length-everybody l in
+    list_any-places p (0, d) (zip everybody xs) ∙ ap (any (λ k. p (get_or (zip everybody xs) k (0, d)))) all ∙
+    any_alike _ _ 16 (λ k b. ap p (get_or-zip everybody xs k (0, d) (omega (arith, length-everybody)) (omega (arith, l)) ∙ ap (λ q. (q, get_or xs k d)) (everybody_at k 0 b)))
 
 module _ {A : Type 0} where
   option_or_none : (o : Option A) → option_or o None ≡ o
@@ -66,7 +84,7 @@ module _ {A : Type 0} where
       (YieldsList-from_shown option_iter_steps (λ y. y.now) (λ u. left (option_iter_done u) (option_iter_item u)) (λ u t m. left_none _ _ m.1)
       (λ u x t m. left_some _ _ _ _ x m.0 m.1) s)
 
-  -- the reports that are there
+  -- those that are there
   abbrev pub there : List (Option A) → List A
   there os = flat_map option_to_list os
 
@@ -78,10 +96,14 @@ module _ {A : Type 0} where
       (YieldsList-from_slice os source) front back done
 
   -- ---- what ends the chain
-  pub any_there : (p : A → Bool) (os : List (Option A)) → list_any p (there os) ≡ any (λ q. present p (get_or os q None)) (length os)
-  any_there p [] = sym (any_zero _)
-  any_there p (None ∷ os) = any_there p os ∙ sym (any_front (λ q. present p (get_or (None ∷ os) q None)) (length os))
-  any_there p (Some a ∷ os) = ap (λ b. p a || b) (any_there p os) ∙ sym (any_front (λ q. present p (get_or (Some a ∷ os) q None)) (length os))
+  -- one of those that are there passes, where g says what passes of one
+  pub any_there : (p : A → Bool) (g : Option A → Bool) → g None ≡ false → ((a : A) → g (Some a) ≡ p a) →
+      (os : List (Option A)) → list_any p (there os) ≡ any (λ q. g (get_or os q None)) (length os)
+  any_there p g none some [] = sym (any_zero _)
+  any_there p g none some (None ∷ os) =
+      any_there p g none some os ∙ ap (λ b. b || any (λ q. g (get_or os q None)) (length os)) (sym none) ∙ sym (any_front (λ q. g (get_or (None ∷ os) q None)) (length os))
+  any_there p g none some (Some a ∷ os) =
+      ap₂ (λ b c. b || c) (sym (some a)) (any_there p g none some os) ∙ sym (any_front (λ q. g (get_or (Some a ∷ os) q None)) (length os))
 
 module _ {A B : Type 0} (offer : A → Option B) (test : B → Bool) where
   found_more : (o : Option B) (bs : List B) → find test (cons_option o bs) ≡ option_or (find test (option_to_list o)) (find test bs)
