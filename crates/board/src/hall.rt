@@ -2,10 +2,10 @@
 ghost use Rattle.std.specs.Prelude.{◌≡◌, ◌<◌, replicate, vec_len, vec_capacity, MatchResult, OnOk};
 ghost use Rattle.stores.specs.Kept.{fresh};
 
-use super::show::End;
 use floor::Floor;
 use manager::{Answer, Need};
 use quorum::{ChosenRule, Failure, QuorumRule, Replica, WeightRule};
+use rounds::End;
 use rows::{Message, Posts};
 use runs::Call;
 use script::{Command, parse};

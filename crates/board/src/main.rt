@@ -2,7 +2,6 @@
 #![tactic(auto)]
 
 mod hall;
-mod show;
 
 use hall::Hall;
 use std::io;

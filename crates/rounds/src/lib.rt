@@ -11,3 +11,4 @@ mod show;
 pub use decision::decide;
 pub use outcome::Outcome;
 pub use report::Report;
+pub use show::End;

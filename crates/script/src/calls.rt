@@ -1,7 +1,6 @@
 // Calls at one replica, as a script writes them. The readers give `Option`, as those of words do: `parse` names the one error.
-use super::numerals::{number, number8, number32};
-use super::sets::members;
 use super::words::{end, first_word, three_words, two_words};
+use operands::{members, number, number8, number32};
 use runs::{Call, Work};
 use stores::{Head, Stamp};
 

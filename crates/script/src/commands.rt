@@ -1,9 +1,8 @@
 // The commands of a script.
 use super::calls::{cut, read_work, stop};
-use super::numerals::{number8, number32};
-use super::sets::members;
 use super::words::{content, end, first_word, three_words, two_words};
 use manager::Need;
+use operands::{members, number8, number32};
 use quorum::ReplicaSet;
 use runs::Call;
 use std::error::Error;

@@ -3,10 +3,7 @@
 
 mod calls;
 mod commands;
-mod numerals;
-mod sets;
 mod words;
 
 pub use commands::{Command, NotUnderstood, parse};
-pub use numerals::{number, number8, number32};
-pub use sets::members;
+pub use operands::{members, number, number8, number32};

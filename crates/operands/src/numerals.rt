@@ -1,6 +1,6 @@
 // Decimal numbers.
 ghost use Rattle.std.specs.Prelude.{◌≡◌};
-ghost use Rattle.script.specs.Numerals.{one_more, reads, below};
+ghost use Rattle.operands.specs.Numerals.{one_more, reads, below};
 
 // A number with one more digit.
 fn one_more(value: u64, byte: u8) -> Option<u64>

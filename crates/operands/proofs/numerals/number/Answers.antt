@@ -1,7 +1,7 @@
 use Rattle.std.proofs.Common.{◌≡◌, get_or, None, Some, fold, refl, rules}
 use Rattle.std.proofs.lemmas.List.Folds.{fold_stuck}
-use Rattle.script.specs.Numerals.{one_more, read_on}
-use Rattle.script.proofs.numerals.number.Goals as goal
+use Rattle.operands.specs.Numerals.{one_more, read_on}
+use Rattle.operands.proofs.numerals.number.Goals as goal
 
 -- a byte that adds nothing to the value ends the reading
 pub returns-in_err-value : goal.returns-in_err-value

@@ -3,7 +3,7 @@ use Rattle.std.specs.Prelude.{ℕ, ◌-◌, Bool, if◌then◌else◌, ◌&&◌,
 use Rattle.std.specs.List.{slice_split}
 use Rattle.quorum.specs.Sets.{nobody_set, either, single}
 use Rattle.quorum.specs.declared.set.ReplicaSet.{ReplicaSet}
-use Rattle.script.specs.Numerals.{reads}
+use Rattle.operands.specs.Numerals.{reads}
 
 -- a set with the replica of this number, where there is a number and it is at most 15
 abbrev pub with_replica : ReplicaSet → Option ℕ → Option ReplicaSet

@@ -1,7 +1,7 @@
 use Rattle.std.proofs.Common.{◌≡◌, map, Some, fold}
 use Rattle.quorum.specs.Sets.{nobody_set}
-use Rattle.script.specs.Sets.{joined}
-use Rattle.script.proofs.sets.listed.Given as goal
+use Rattle.operands.specs.Sets.{joined}
+use Rattle.operands.proofs.sets.listed.Given as goal
 
 -- the words so far name the set
 abbrev pub invariant-loop-word : goal.invariant-loop-word

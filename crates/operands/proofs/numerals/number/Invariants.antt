@@ -1,6 +1,6 @@
 use Rattle.std.proofs.Common.{◌≡◌, take, Some, fold}
-use Rattle.script.specs.Numerals.{read_on}
-use Rattle.script.proofs.numerals.number.Given as goal
+use Rattle.operands.specs.Numerals.{read_on}
+use Rattle.operands.proofs.numerals.number.Given as goal
 
 -- the digits so far read as the value
 abbrev pub invariant-loop-byte : goal.invariant-loop-byte

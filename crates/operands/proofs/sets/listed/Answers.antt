@@ -3,11 +3,11 @@ use Rattle.std.proofs.lemmas.Iterator.{YieldsList}
 use Rattle.std.proofs.lemmas.Iterator.Consumers.{YieldsList-at, YieldsList-so_far, YieldsList-turn, YieldsList-end}
 use Rattle.std.proofs.lemmas.Iterator.Splits.{YieldsList-from_slice_split}
 use Rattle.std.proofs.lemmas.List.Folds.{fold_stuck}
-use Rattle.script.specs.Numerals.{reads}
+use Rattle.operands.specs.Numerals.{reads}
 use Rattle.quorum.specs.Sets.{nobody_set}
-use Rattle.script.specs.Sets.{with_replica, joined, words}
-use Rattle.script.proofs.sets.listed.Given as given
-use Rattle.script.proofs.sets.listed.Goals as goal
+use Rattle.operands.specs.Sets.{with_replica, joined, words}
+use Rattle.operands.proofs.sets.listed.Given as given
+use Rattle.operands.proofs.sets.listed.Goals as goal
 
 -- a word that names no replica ends the reading
 pub returns-in_err-set : goal.returns-in_err-set

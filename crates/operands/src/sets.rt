@@ -1,7 +1,7 @@
 // Sets as a script writes them: {} or {1,2,3}.
 ghost use Rattle.std.specs.Prelude.{◌≡◌};
-ghost use Rattle.script.specs.Numerals.{reads};
-ghost use Rattle.script.specs.Sets.{with_replica, listed, set_of};
+ghost use Rattle.operands.specs.Numerals.{reads};
+ghost use Rattle.operands.specs.Sets.{with_replica, listed, set_of};
 
 use super::numerals::number8;
 use quorum::{Replica, ReplicaSet};
