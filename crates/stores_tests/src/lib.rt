@@ -1,12 +1,10 @@
-// Tests of the sets, the rules, the stores and the worked examples, and a store of another kind than held pages.
+// Tests of the sets, the rules and the stores, and a store of another kind than held pages.
 #![tactic(auto)]
 
 mod counted;
 
 pub use counted::CountedPages;
 
-#[cfg(test)]
-mod examples;
 #[cfg(test)]
 mod pages;
 #[cfg(test)]
