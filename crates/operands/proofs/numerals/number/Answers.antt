@@ -1,13 +1,16 @@
-use Rattle.std.proofs.Common.{◌≡◌, get_or, None, Some, fold, refl, rules}
-use Rattle.std.proofs.lemmas.List.Folds.{fold_stuck}
-use Rattle.operands.specs.Numerals.{one_more, read_on}
+use Rattle.std.proofs.Common.{rules}
+use Rattle.operands.proofs.Reading.{goes_on, stops, ends}
 use Rattle.operands.proofs.numerals.number.Goals as goal
 
 -- a byte that adds nothing to the value ends the reading
 pub returns-in_err-value : goal.returns-in_err-value
-returns-in_err-value c =
-    let w = c.args.word.now in
-    let i = c.loop-byte.byte-index in
-    let here : one_more c.loop-byte.value (get_or w i 0) ≡ None = search rules in
-    let stuck : None ≡ fold read_on (Some 0) w = fold_stuck read_on None (λ b. refl) (Some 0) w i 0 c.loop-byte-test.true (rw (← c.loop-byte.invariant) here) in
-    search (rules, stuck)
+returns-in_err-value c = search (rules, stops c.args.word.now c.loop-byte.byte-index c.loop-byte.value c.loop-byte-test.true c.loop-byte.invariant)
+
+pub loop-byte-init : goal.loop-byte-init
+loop-byte-init c = search rules
+
+pub loop-byte-preserved : goal.loop-byte-preserved
+loop-byte-preserved c = search (rules, goes_on c.args.word.now c.loop-byte.byte-index c.loop-byte.value c.in_ok-value.value c.loop-byte-test.true c.loop-byte.invariant)
+
+pub returns : goal.returns
+returns c = search (rules, ends c.args.word.now c.loop-byte.byte-index c.loop-byte.value c.loop-byte-test.false)
