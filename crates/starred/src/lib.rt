@@ -1,5 +1,5 @@
 // Worked examples of the quorum rules and of the round's decision, as one table. The contract of `starred` says that each line is
-// as the rules say; the test runs each line through the code.
+// as the rules say; a test of `tables` runs each line through the code.
 #![tactic(auto)]
 
 mod round;

@@ -160,15 +160,3 @@ pub fn starred() -> [Example; 9]
 {
     lines()
 }
-
-#[cfg(test)]
-mod tests {
-    use super::*;
-
-    #[test]
-    fn each_line_is_shown(rt: HostRuntime) {
-        for example in &starred() {
-            assert!(rt; example.is_shown());
-        }
-    }
-}

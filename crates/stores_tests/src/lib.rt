@@ -1,13 +1,6 @@
-// Tests of the sets, the rules and the stores, and a store of another kind than held pages.
+// A store of another kind than held pages, for the tests.
 #![tactic(auto)]
 
 mod counted;
 
 pub use counted::CountedPages;
-
-#[cfg(test)]
-mod pages;
-#[cfg(test)]
-mod readings;
-#[cfg(test)]
-mod rules;

@@ -14,3 +14,6 @@ returns-in_err-check_down-in-Start g c =
     let left = c.from_residual-in_err-check_down-in-Start in
     let e = err_from_is_err_and left.result left.ensures.1 in
     rw (e.1, e.2, c.in-Start.is) (given_on (down_test c.args.self.now.table.rows c.in-Start.replica) _ _ _ c.in_err-check_down-in-Start.ensures)
+
+pub returns-in-Deliver : goal.returns-in-Deliver
+returns-in-Deliver g c = rw c.in-Deliver.is (rw c.message_at.ensures at c.check_delivery.ensures)

@@ -1,11 +1,11 @@
 // What is read after writes and cuts, by held pages and by a store that counts its places down.
-use super::counted::CountedPages;
 use super::pages::{page, view};
 use quorum::Replica;
 use std::test::Fail;
 use stores::{
     Breakable, HeldPages, KeptPage, Mode, Page, Store, Writing, carry_out, carry_out_held,
 };
+use stores_tests::CountedPages;
 
 // A page of replica 1, 2 or 3, told apart by its number.
 fn normal(number: u32) -> Page {
