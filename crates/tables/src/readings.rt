@@ -1,6 +1,7 @@
 // What is read after writes and cuts, by held pages and by a store that counts its places down.
 use super::pages::{page, view};
 use quorum::Replica;
+use std::process::Abort;
 use std::test::Fail;
 use stores::{
     Breakable, HeldPages, KeptPage, Mode, Page, Store, Writing, carry_out, carry_out_held,
@@ -15,6 +16,10 @@ fn normal(number: u32) -> Page {
 // What is read at a replica, if there is such a replica.
 fn read<S: Store>(store: &S, replica: u8) -> Option<Page> {
     Some(store.read(Replica::new(replica)?))
+}
+
+fn check_read<S: Store>(rt: &impl Abort, store: &S, replica: u8, page: Page) {
+    assert_eq!(rt; read(store, replica), Some(page), "replica {replica}");
 }
 
 fn write(replica: u8, number: u32) -> Writing {
@@ -45,10 +50,10 @@ fn held_pages(rt: HostRuntime) {
         cut(3, 10, u64::MAX),
     ];
     assert_eq!(rt; carry_out(&mut store, &writings), 6);
-    assert_eq!(rt; read(&store, 0), Some(Page::fresh()));
-    assert_eq!(rt; read(&store, 1), Some(normal(7)));
-    assert_eq!(rt; read(&store, 2), Some(normal(8)));
-    assert_eq!(rt; read(&store, 3), Some(normal(10)));
+    check_read(&rt, &store, 0, Page::fresh());
+    check_read(&rt, &store, 1, normal(7));
+    check_read(&rt, &store, 2, normal(8));
+    check_read(&rt, &store, 3, normal(10));
     assert_eq!(rt; store.places(), 65_535);
 }
 
@@ -60,9 +65,9 @@ fn kept_out(rt: HostRuntime) {
         carry_out_held(&mut store, &[write(1, 7), write(4, 7), write(2, 7)]),
         1
     );
-    assert_eq!(rt; read(&store, 1), Some(normal(7)));
-    assert_eq!(rt; read(&store, 4), Some(Page::fresh()));
-    assert_eq!(rt; read(&store, 2), Some(Page::fresh()));
+    check_read(&rt, &store, 1, normal(7));
+    check_read(&rt, &store, 4, Page::fresh());
+    check_read(&rt, &store, 2, Page::fresh());
     assert_eq!(rt; carry_out_held(&mut store, &[write(17, 7)]), 0);
 }
 
@@ -78,9 +83,9 @@ fn counted_down(rt: HostRuntime) -> Result<(), Fail> {
         write(3, 7),
     ];
     assert_eq!(rt; carry_out(&mut store, &writings), 4);
-    assert_eq!(rt; read(&store, 1), Some(normal(7)));
-    assert_eq!(rt; read(&store, 2), Some(normal(7)));
-    assert_eq!(rt; read(&store, 3), Some(Page::fresh()));
+    check_read(&rt, &store, 1, normal(7));
+    check_read(&rt, &store, 2, normal(7));
+    check_read(&rt, &store, 3, Page::fresh());
     assert_eq!(rt; store.places(), 0);
     Ok(())
 }
