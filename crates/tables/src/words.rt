@@ -32,24 +32,16 @@ fn no_numbers(rt: HostRuntime) {
     check_number(&rt, ":", None);
 }
 
-fn check_number8(rt: &impl Abort, word: &str, value: Option<u8>) {
-    assert_eq!(rt; number8(word.as_bytes()), value, "{}", word);
-}
-
-fn check_number32(rt: &impl Abort, word: &str, value: Option<u32>) {
-    assert_eq!(rt; number32(word.as_bytes()), value, "{}", word);
-}
-
 #[test]
 fn narrow_numbers(rt: HostRuntime) {
-    check_number8(&rt, "0", Some(0));
-    check_number8(&rt, "0255", Some(255));
-    check_number8(&rt, "256", None);
-    check_number8(&rt, "", None);
-    check_number8(&rt, "18446744073709551616", None);
-    check_number32(&rt, "4294967295", Some(u32::MAX));
-    check_number32(&rt, "4294967296", None);
-    check_number32(&rt, "-1", None);
+    assert_eq!(rt; number8(b"0"), Some(0));
+    assert_eq!(rt; number8(b"0255"), Some(255));
+    assert_eq!(rt; number8(b"256"), None);
+    assert_eq!(rt; number8(b""), None);
+    assert_eq!(rt; number8(b"18446744073709551616"), None);
+    assert_eq!(rt; number32(b"4294967295"), Some(u32::MAX));
+    assert_eq!(rt; number32(b"4294967296"), None);
+    assert_eq!(rt; number32(b"-1"), None);
 }
 
 fn check_set(rt: &impl Abort, word: &str, bits: u16) -> Result<(), Fail> {
