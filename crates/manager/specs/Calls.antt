@@ -3,7 +3,7 @@ use Rattle.std.specs.Prelude.{ℕ, Bool, true, false, if◌then◌else◌, not, 
 use Rattle.std.specs.Option.{option_or}
 use Rattle.quorum.specs.Below.{within}
 use Rattle.quorum.specs.Members.{has}
-use Rattle.quorum.specs.Sets.{nobody_set, both, less, single}
+use Rattle.quorum.specs.Sets.{nobody_set, both, single}
 use Rattle.quorum.specs.declared.fault.Fault.{Fault}
 use Rattle.quorum.specs.declared.fault.Layer.TheVariants.{Manager}
 use Rattle.quorum.specs.declared.fault.Reason.{Reason}
@@ -31,7 +31,7 @@ use Rattle.manager.specs.declared.answer.Answer.{Answer}
 use Rattle.manager.specs.declared.hearing.Hearing.{Hearing}
 use Rattle.manager.specs.declared.hearing.Hearing.TheVariants.{Heard, Answered, Outdone, Aborted}
 use Rattle.manager.specs.declared.need.Need.{Need}
-use Rattle.manager.specs.Effects.{Effect, effect, ending, in_mode, in_stage, closed, spare_page, spare_row, carried_out, posts_of, entry_of, judged, judged_again, judged_after_loss}
+use Rattle.manager.specs.Effects.{Effect, effect, ending, in_mode, in_stage, closed, spare_page, spare_row, carried_out, posts_of, entry_of, judged, judged_again}
 use Rattle.manager.specs.Hearing.{Turn, hears}
 use Rattle.manager.specs.Verdicts.{verdict_of}
 use Rattle.quorum.specs.Faults.{refused_at, refused_if, given}
@@ -150,9 +150,9 @@ abort_message r h = record { sender = r; head = h; body = Abort }
 abbrev pub join_message : ℕ → Head → Message
 join_message r h = record { sender = r; head = h; body = Join }
 
--- a waiting replica's sources are the view without itself
-abbrev pub applying_row : ℕ → Row → Head → Row
-applying_row r w h = in_stage (Applying h (record { sources = record { 0 = less h.set.0 (single r) }; joins = nobody_set; states = nobody_set; reference = None })) w
+-- a waiting replica has heard nothing yet
+abbrev pub applying_row : Row → Head → Row
+applying_row w h = in_stage (Applying h (record { joins = nobody_set; states = nobody_set; reference = None })) w
 
 -- a member with the component view c: survivors that no longer carry it begin a round; without newcomers the view is recorded; else States are gathered
 abbrev pub member_takes_up : (ℕ → ℕ → Bool) → Need → ℕ → Page → Row → Head → View → Effect
@@ -167,7 +167,7 @@ normal_takes_up f need r p w h None = effect p w Nothing
 normal_takes_up f need r p w h (Some c) = member_takes_up f need r p (thinned w h) h c
 
 abbrev pub mode_takes_up : (ℕ → ℕ → Bool) → Need → ℕ → Page → Row → Head → Mode → Effect
-mode_takes_up f need r p w h Waiting = judged f need r p (applying_row r w h) (Some (join_message r h))
+mode_takes_up f need r p w h Waiting = judged f need r p (applying_row w h) (Some (join_message r h))
 mode_takes_up f need r p w h Joining = effect p w Nothing
 mode_takes_up f need r p w h Normal = normal_takes_up f need r p w h p.component
 mode_takes_up f need r p w h Reconfiguration = beginning f need r p w h None
@@ -212,7 +212,7 @@ delivered f need r p w m = delivered_to f need r p w m (delivery_refusal r p w m
 
 -- a replica of the head is lost
 unfoldable pub lost_at : (ℕ → ℕ → Bool) → Need → ℕ → Page → Row → ℕ → Result Effect Fault
-lost_at f need r p w q = given (loss_refusal r p w q) (judged_after_loss f need r p (losing w q))
+lost_at f need r p w q = given (loss_refusal r p w q) (judged f need r p (losing w q) None)
 
 -- a replica stops
 unfoldable pub stopped_at : ℕ → Page → Row → Result Effect Fault

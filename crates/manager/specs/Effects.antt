@@ -176,17 +176,3 @@ judged_by f need r p w m (Ends o v) = carried_out r p w (posts_of m None) (Ends 
 -- the head is judged, after a message that the call posts first, if any
 abbrev pub judged : (ℕ → ℕ → Bool) → Need → ℕ → Page → Row → Option Message → Effect
 judged f need r p w m = judged_by f need r p w m (verdict_of f need r p w)
-
--- a loss takes away and adds nothing that was heard, so it never leads to recording
-abbrev pub without_recording : Verdict → Verdict
-without_recording Stays = Stays
-without_recording Records = Stays
-without_recording Installs = Installs
-without_recording Reconfigures = Reconfigures
-without_recording Closes = Closes
-without_recording Forgets = Forgets
-without_recording (Ends o v) = Ends o v
-
--- the head is judged after a loss
-abbrev pub judged_after_loss : (ℕ → ℕ → Bool) → Need → ℕ → Page → Row → Effect
-judged_after_loss f need r p w = carried_out r p w Nothing (without_recording (verdict_of f need r p w))

@@ -1,7 +1,6 @@
 -- What each stage hears. Assumes nothing.
 use Rattle.std.specs.Prelude.{ℕ, ◌+◌, ◌-◌, Bool, true, false, if◌then◌else◌, not, ◌&&◌, List, is_some, Some, None, Ok, Err, Option, Result, ◌==◌, nat_le, nat_lt, slice_set}
 use Rattle.quorum.specs.Members.{has}
-use Rattle.quorum.specs.Sets.{less, single}
 use Rattle.quorum.specs.declared.fault.Reason.{Reason}
 use Rattle.quorum.specs.declared.fault.Reason.TheVariants.{NotHeard, HeardAlready}
 use Rattle.quorum.specs.declared.set.ReplicaSet.{ReplicaSet}
@@ -50,6 +49,10 @@ may_hear hears already = if hears then (if already then Err HeardAlready else Ok
 -- Recorded is heard once from a sender, in whichever part
 abbrev pub hears_recorded : Bool → Recorders → ℕ → Part → Result (Turn Recorders) Reason
 hears_recorded hears x q part = heard_if hears (has (all_recorders x) q) (recorders_with x q part) Heard
+
+-- a State is heard once from a sender
+abbrev pub hears_from : Bool → ReplicaSet → ℕ → Result (Turn ReplicaSet) Reason
+hears_from hears s q = heard_if hears (has s.0 q) (adding s q) Heard
 
 -- a Report of mode reconfiguration is answered once
 abbrev pub hears_reconfiguring : Bool → Report → Result (Turn Bool) Reason
@@ -121,12 +124,18 @@ abbrev pub applied_state : Applied → ℕ → View → ReplicaSet → Applied
 applied_state a q c s = record a { states = adding a.states q; reference = Some (fixed a.reference c s) }
 
 abbrev pub applied_join : Applied → ℕ → Applied
-applied_join a q = record a { sources = record { 0 = less a.sources.0 (single q) }; joins = adding a.joins q }
+applied_join a q = record a { joins = adding a.joins q }
+
+abbrev pub hears_reference : Page → Applied → ℕ → View → ReplicaSet → Result (Turn Applied) Reason
+hears_reference p a q c s = heard_if (reaches_mark p.mark c.number && as_reference a.reference c) (has a.states.0 q) (applied_state a q c s) Heard
+
+abbrev pub hears_join : Applied → ℕ → Result (Turn Applied) Reason
+hears_join a q = heard_if (not (is_some a.reference)) (has a.joins.0 q) (applied_join a q) Heard
 
 abbrev pub hears_applying : Page → Applied → ℕ → Body → Result (Turn Applied) Reason
-hears_applying p a q (State c s) = heard_if (reaches_mark p.mark c.number && as_reference a.reference c) (has a.states.0 q) (applied_state a q c s) Heard
+hears_applying p a q (State c s) = hears_reference p a q c s
 hears_applying p a q Abort = Ok (record { left = a; hearing = Aborted })
-hears_applying p a q Join = heard_if (not (is_some a.reference)) (has a.joins.0 q) (applied_join a q) Heard
+hears_applying p a q Join = hears_join a q
 hears_applying p a q (Recorded n part) = Err NotHeard
 hears_applying p a q (Reports m) = Err NotHeard
 
@@ -157,12 +166,15 @@ above (Some n) (Some c) = nat_lt n.0 c.number.0
 abbrev pub outdoes : Page → Report → Bool
 outdoes p m = is_normal m.mode && above (base_of p.component p.recorded) m.component
 
+abbrev pub hears_report : Page → List (Option Report) → ℕ → Report → Result (Turn (List (Option Report))) Reason
+hears_report p rs q m = heard_if true (is_some (reported rs q)) (slice_set rs q (Some m)) (if outdoes p m then Outdone else Heard)
+
 abbrev pub hears_round : Page → List (Option Report) → ℕ → Body → Result (Turn (List (Option Report))) Reason
 hears_round p rs q (State c s) = Err NotHeard
 hears_round p rs q Abort = Err NotHeard
 hears_round p rs q Join = Err NotHeard
 hears_round p rs q (Recorded n part) = Err NotHeard
-hears_round p rs q (Reports m) = heard_if true (is_some (reported rs q)) (slice_set rs q (Some m)) (if outdoes p m then Outdone else Heard)
+hears_round p rs q (Reports m) = hears_report p rs q m
 
 abbrev pub hears_stage : Page → ReplicaSet → ℕ → Body → Stage → Result (Turn Stage) Reason
 hears_stage p survivors q b Idle = Err NotHeard

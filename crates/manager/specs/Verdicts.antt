@@ -64,15 +64,19 @@ carrying_verdict f heard survivors lost set =
 abbrev pub confirming_verdict : (ℕ → ℕ → Bool) → ℕ → ℕ → Confirmed → View → Verdict
 confirming_verdict f survivors lost g c = carrying_verdict f (both g.recorders.members.0 survivors) survivors lost c.set.0
 
--- Applying: who may still send a State, beside those who did; never itself or the lost
+-- Applying: the sources before a reference, which are not kept: the head without the replica and without those whose Join was heard
+abbrev pub sources_of : ℕ → Head → Applied → ℕ
+sources_of r h a = less (less h.set.0 (single r)) a.joins.0
+
+-- who may still send a State, beside those who did: the sources or, with a reference, its members in the head; never itself or the lost
 abbrev pub possible_senders : ℕ → ℕ → Head → Applied → Option Reference → ℕ
-possible_senders r lost h a None = less a.sources.0 (either lost (single r))
+possible_senders r lost h a None = less (sources_of r h a) (either lost (single r))
 possible_senders r lost h a (Some x) = less (both x.component.set.0 h.set.0) (either lost (single r))
 
 -- out of how many: the sources, or the reference's set
-abbrev pub asked : Applied → Option Reference → ℕ
-asked a None = size a.sources.0
-asked a (Some x) = size x.component.set.0
+abbrev pub asked : ℕ → Head → Applied → Option Reference → ℕ
+asked r h a None = size (sources_of r h a)
+asked r h a (Some x) = size x.component.set.0
 
 -- need is met only with a reference
 abbrev pub need_met : Need → Applied → Option Reference → Bool
@@ -83,8 +87,8 @@ need_met need a (Some x) = not (nat_lt (size a.states.0) (need_of need (size x.c
 abbrev pub applying_verdict : Need → ℕ → ℕ → Head → Applied → Verdict
 applying_verdict need r lost h a =
     if need_met need a a.reference then Records
-    else if nobody a.sources.0 then Closes
-    else if nat_lt (size (either a.states.0 (possible_senders r lost h a a.reference))) (need_of need (asked a a.reference)) then Closes else Stays
+    else if nobody (sources_of r h a) then Closes
+    else if nat_lt (size (either a.states.0 (possible_senders r lost h a a.reference))) (need_of need (asked r h a a.reference)) then Closes else Stays
 
 -- Entering. A newcomer lost unheard: the recorded view goes. With all heard, recording members among the reference's survivors decide.
 abbrev pub entering_verdict : (ℕ → ℕ → Bool) → ℕ → Head → Entered → Verdict
@@ -102,10 +106,10 @@ heard_of rs = select (λ q. is_some (reported rs q)) 16
 unfoldable pub round_end : (ℕ → ℕ → Bool) → Head → List (Option Report) → Outcome × Option View
 round_end f h rs = decided f h rs
 
--- Round: a lost member ends it; with all reports of the head heard it is decided
+-- Round: a lost member of the head ends it; with all reports of the head heard it is decided
 abbrev pub round_verdict : (ℕ → ℕ → Bool) → ℕ → Head → List (Option Report) → Verdict
 round_verdict f lost h rs =
-    if nobody lost then (if within h.set.0 (heard_of rs) then Ends (round_end f h rs).0 (round_end f h rs).1 else Stays)
+    if nobody (both lost h.set.0) then (if within h.set.0 (heard_of rs) then Ends (round_end f h rs).0 (round_end f h rs).1 else Stays)
     else Ends LostMember None
 
 -- with a component view; without one nothing is judged

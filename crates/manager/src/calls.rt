@@ -81,7 +81,7 @@ impl<R: QuorumRule> Terms<'_, R> {
         ensures row { row.new ≡ row_left row.old (heard_or_not (R.carries self.now.rule.now) self.now.need self.now.replica page.old row.old message.now.head (hears page.old row.old sender message.now.body)) }
     {
         let replica = self.replica.number();
-        let hearing = hear(page, row, sender, &message.body).map_err(|reason| reason.at(
+        let hearing = hear(page, row, sender, message).map_err(|reason| reason.at(
             replica,
             Layer::Manager,
         ))?;
@@ -139,7 +139,7 @@ pub fn lose<R: QuorumRule>(
         replica,
     };
     mark_lost(row, lost);
-    Ok(terms.judge_loss(page, row))
+    Ok(terms.judge_head(page, row, None))
 }
 
 // The replica stops: its row is down and empty, its page as it was.

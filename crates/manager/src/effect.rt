@@ -1,6 +1,6 @@
 // What judging comes to: recording, installing, settling, closing.
 ghost use Rattle.std.specs.Prelude.{◌≡◌};
-ghost use Rattle.manager.specs.Effects.{closed, raised, component_page, component_row, spare_page, spare_row, installing, settling, carried_out, posts_of, recording, recorded_message, next_of, next_component, member_entry, newcomer_entry, entry_of, judged, judged_again, without_recording, judged_after_loss};
+ghost use Rattle.manager.specs.Effects.{closed, raised, component_page, component_row, spare_page, spare_row, installing, settling, carried_out, posts_of, recording, recorded_message, next_of, next_component, member_entry, newcomer_entry, entry_of, judged, judged_again};
 
 use super::answer::Answer;
 use super::terms::Terms;
@@ -233,16 +233,6 @@ pub(crate) fn record(replica: Replica, page: &mut Page, row: &mut Row) -> Option
     }
 }
 
-// A loss takes away and adds nothing that was heard, so it never leads to recording.
-fn without_recording(verdict: Verdict) -> Verdict
-    ensures { result ≡ without_recording verdict }
-{
-    match verdict {
-        Verdict::Records => Verdict::Stays,
-        other => other,
-    }
-}
-
 impl<R: QuorumRule> Terms<'_, R> {
     // The head is recorded, and judged.
     pub(crate) fn record_and_judge(
@@ -276,15 +266,5 @@ impl<R: QuorumRule> Terms<'_, R> {
             return carry_out(self.replica, page, row, posts_of(first, None), verdict);
         };
         self.record_and_judge(page, row, first)
-    }
-
-    // The head is judged after a loss.
-    pub(crate) fn judge_loss(&self, page: &mut Page, row: &mut Row) -> Answer
-        ensures answer { result ≡ (judged_after_loss (R.carries self.now.rule.now) self.now.need self.now.replica page.old row.old).answer }
-        ensures page { page.new ≡ (judged_after_loss (R.carries self.now.rule.now) self.now.need self.now.replica page.old row.old).page }
-        ensures row { row.new ≡ (judged_after_loss (R.carries self.now.rule.now) self.now.need self.now.replica page.old row.old).row }
-    {
-        let verdict = without_recording(self.judge(page, row));
-        carry_out(self.replica, page, row, Posts::Nothing, verdict)
     }
 }

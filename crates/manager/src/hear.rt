@@ -1,12 +1,12 @@
 // What each stage hears: the row is changed in place.
-ghost use Rattle.std.specs.Prelude.{◌≡◌, if◌then◌else◌};
+ghost use Rattle.std.specs.Prelude.{◌≡◌};
 ghost use Rattle.manager.specs.Effects.{in_stage};
-ghost use Rattle.manager.specs.Hearing.{one_above, as_recorded, as_component, reaches_mark, as_reference, fixed, hears_recorded, hears_reconfiguring, base_of, outdoes, may_hear, hears_gathering, hears_confirming, hears_applying, hears_entering, hears_round, hears, hearing_of, left_of};
+ghost use Rattle.manager.specs.Hearing.{one_above, as_recorded, as_component, reaches_mark, as_reference, fixed, hears_recorded, hears_reconfiguring, hears_from, hears_report, hears_reference, hears_join, base_of, outdoes, may_hear, hears, hearing_of, left_of};
 
 use super::hearing::Hearing;
 use quorum::{Reason, Replica, ReplicaSet};
 use rounds::Report;
-use rows::{Applied, Body, Confirmed, Entered, Gathered, Part, Recorders, Reference, Row, Stage};
+use rows::{Applied, Body, Message, Part, Recorders, Reference, Row, Stage};
 use stores::{Mode, Number, Page, Recorded, View};
 
 // One above the component view's number.
@@ -56,13 +56,13 @@ fn fix(reference: Option<Reference>, component: View, survivors: ReplicaSet) -> 
 fn base(page: &Page) -> Option<Number>
     ensures { result ≡ base_of page.now.component page.now.recorded }
 {
-    if let Some(component) = page.component {
-        return Some(component.number);
-    }
-    let Some(recorded) = page.recorded else {
-        return None;
+    let Some(component) = page.component else {
+        let Some(recorded) = page.recorded else {
+            return None;
+        };
+        return Some(Number(recorded.view.number.0.saturating_sub(1)));
     };
-    Some(Number(recorded.view.number.0.saturating_sub(1)))
+    Some(component.number)
 }
 
 // A report of mode normal with a component view above the base: the board has gone on without this replica. As in `base`, what may
@@ -80,16 +80,6 @@ fn is_outdone(page: &Page, report: &Report) -> bool
         return false;
     };
     number < component.number
-}
-
-fn hear_report(page: &Page, report: &Report) -> Hearing
-    ensures { result ≡ (if outdoes page.now report.now then Hearing.Outdone else Hearing.Heard) }
-{
-    if is_outdone(page, report) {
-        Hearing::Outdone
-    } else {
-        Hearing::Heard
-    }
 }
 
 // Whether a rule hears the message is asked first, then whether it was heard before.
@@ -130,146 +120,111 @@ fn hear_reconfiguring(answered: &mut bool, report: &Report) -> Result<Hearing, R
     Ok(Hearing::Answered)
 }
 
-// Page, sender and body go through a function for each stage: a struct of them would be made in one place for one match, and every
-// clause would take it apart again, which is no plainer.
-#[tactic(auto, using(crate::proofs::Turns::heard_answers))]
-fn hear_gathering(
-    page: &Page,
-    survivors: ReplicaSet,
-    gathered: &mut Gathered,
-    sender: Replica,
-    body: &Body,
-) -> Result<Hearing, Reason>
-    ensures answer { result ≡ hearing_of (hears_gathering page.now survivors gathered.old sender body.now) }
-    ensures gathered { gathered.new ≡ left_of gathered.old (hears_gathering page.now survivors gathered.old sender body.now) }
-{
-    match body {
-        Body::State(component, _) => {
-            let hears = survivors.contains(sender.number())
-                && is_component(page.component, *component);
-            may_hear(hears, gathered.states.contains(sender.number()))?;
-            gathered.states = gathered.states.with(sender.number());
-            Ok(Hearing::Heard)
-        }
-        Body::Recorded(number, part) => {
-            let hears = is_one_above(page.component, *number);
-            hear_recorded(&mut gathered.recorders, hears, sender, *part)
-        }
-        Body::Report(report) => hear_reconfiguring(&mut gathered.answered, report),
-        Body::Abort | Body::Join => Err(Reason::NotHeard),
-    }
-}
-
-#[tactic(auto, using(crate::proofs::Turns::heard_answers))]
-fn hear_confirming(
-    page: &Page,
-    confirmed: &mut Confirmed,
-    sender: Replica,
-    body: &Body,
-) -> Result<Hearing, Reason>
-    ensures answer { result ≡ hearing_of (hears_confirming page.now confirmed.old sender body.now) }
-    ensures confirmed { confirmed.new ≡ left_of confirmed.old (hears_confirming page.now confirmed.old sender body.now) }
-{
-    match body {
-        Body::Recorded(number, part) => {
-            let hears = is_recorded(page.recorded, *number);
-            hear_recorded(&mut confirmed.recorders, hears, sender, *part)
-        }
-        Body::Report(report) => hear_reconfiguring(&mut confirmed.answered, report),
-        Body::State(_, _) | Body::Abort | Body::Join => Err(Reason::NotHeard),
-    }
-}
-
-fn hear_applying(
-    page: &Page,
-    applied: &mut Applied,
-    sender: Replica,
-    body: &Body,
-) -> Result<Hearing, Reason>
-    ensures answer { result ≡ hearing_of (hears_applying page.now applied.old sender body.now) }
-    ensures applied { applied.new ≡ left_of applied.old (hears_applying page.now applied.old sender body.now) }
-{
-    match body {
-        Body::State(component, theirs) => {
-            let hears = reaches_mark(page.mark, component.number)
-                && is_reference(applied.reference, *component);
-            may_hear(hears, applied.states.contains(sender.number()))?;
-            applied.states = applied.states.with(sender.number());
-            applied.reference = Some(fix(applied.reference, *component, *theirs));
-            Ok(Hearing::Heard)
-        }
-        Body::Join => {
-            may_hear(
-                applied.reference.is_none(),
-                applied.joins.contains(sender.number()),
-            )?;
-            applied.sources = applied.sources.without(sender.number());
-            applied.joins = applied.joins.with(sender.number());
-            Ok(Hearing::Heard)
-        }
-        Body::Abort => Ok(Hearing::Aborted),
-        Body::Recorded(_, _) | Body::Report(_) => Err(Reason::NotHeard),
-    }
-}
-
-#[tactic(auto, using(crate::proofs::Turns::heard_answers))]
-fn hear_entering(
-    page: &Page,
-    entered: &mut Entered,
-    sender: Replica,
-    body: &Body,
-) -> Result<Hearing, Reason>
-    ensures answer { result ≡ hearing_of (hears_entering page.now entered.old sender body.now) }
-    ensures entered { entered.new ≡ left_of entered.old (hears_entering page.now entered.old sender body.now) }
-{
-    match body {
-        Body::Recorded(number, part) => {
-            let hears = is_recorded(page.recorded, *number);
-            hear_recorded(&mut entered.recorders, hears, sender, *part)
-        }
-        Body::State(_, _) | Body::Abort | Body::Join | Body::Report(_) => Err(Reason::NotHeard),
-    }
-}
-
-fn hear_round(
+// A report is heard once from a sender. One of a replica that went on without this one makes it a spare.
+fn hear_report(
     page: &Page,
     reports: &mut [Option<Report>; 16],
     sender: Replica,
-    body: &Body,
+    report: &Report,
 ) -> Result<Hearing, Reason>
-    ensures answer { result ≡ hearing_of (hears_round page.now reports.old sender body.now) }
-    ensures reports { reports.new ≡ left_of reports.old (hears_round page.now reports.old sender body.now) }
+    ensures answer { result ≡ hearing_of (hears_report page.now reports.old sender report.now) }
+    ensures reports { reports.new ≡ left_of reports.old (hears_report page.now reports.old sender report.now) }
 {
-    match body {
-        Body::Report(report) => {
-            may_hear(true, reports[sender.index()].is_some())?;
-            reports[sender.index()] = Some(*report);
-            Ok(hear_report(page, report))
-        }
-        Body::State(_, _) | Body::Abort | Body::Join | Body::Recorded(_, _) => Err(
-            Reason::NotHeard,
-        ),
+    may_hear(true, reports[sender.index()].is_some())?;
+    reports[sender.index()] = Some(*report);
+    if is_outdone(page, report) {
+        Ok(Hearing::Outdone)
+    } else {
+        Ok(Hearing::Heard)
     }
 }
 
-// Hears what the sender tells, or says why not.
-#[tactic(auto, using(crate::proofs::Turns::turned_answers, crate::proofs::Turns::turned_leaves), unfolding(crate::specs::Hearing::hears))]
+// A State is heard once from a sender.
+fn hear_state(states: &mut ReplicaSet, hears: bool, sender: Replica) -> Result<Hearing, Reason>
+    ensures answer { result ≡ hearing_of (hears_from hears states.old sender) }
+    ensures states { states.new ≡ left_of states.old (hears_from hears states.old sender) }
+{
+    may_hear(hears, states.contains(sender.number()))?;
+    *states = states.with(sender.number());
+    Ok(Hearing::Heard)
+}
+
+// A State that a newcomer hears fixes its reference, or fits it.
+fn hear_reference(
+    page: &Page,
+    applied: &mut Applied,
+    sender: Replica,
+    component: View,
+    survivors: ReplicaSet,
+) -> Result<Hearing, Reason>
+    ensures answer { result ≡ hearing_of (hears_reference page.now applied.old sender component survivors) }
+    ensures applied { applied.new ≡ left_of applied.old (hears_reference page.now applied.old sender component survivors) }
+{
+    let hears = reaches_mark(page.mark, component.number)
+        && is_reference(applied.reference, component);
+    may_hear(hears, applied.states.contains(sender.number()))?;
+    applied.states = applied.states.with(sender.number());
+    applied.reference = Some(fix(applied.reference, component, survivors));
+    Ok(Hearing::Heard)
+}
+
+// Before a reference a Join is heard once from a sender.
+fn hear_join(applied: &mut Applied, sender: Replica) -> Result<Hearing, Reason>
+    ensures answer { result ≡ hearing_of (hears_join applied.old sender) }
+    ensures applied { applied.new ≡ left_of applied.old (hears_join applied.old sender) }
+{
+    may_hear(
+        applied.reference.is_none(),
+        applied.joins.contains(sender.number()),
+    )?;
+    applied.joins = applied.joins.with(sender.number());
+    Ok(Hearing::Heard)
+}
+
+// Hears the message, or says why not: the table of what each stage hears, in one match that changes the row in place.
+#[tactic(auto, using(crate::proofs::Turns::turned_answers, crate::proofs::Turns::turned_leaves, crate::proofs::Turns::heard_answers), unfolding(crate::specs::Hearing::hears))]
 pub(crate) fn hear(
     page: &Page,
     row: &mut Row,
     sender: Replica,
-    body: &Body,
+    message: &Message,
 ) -> Result<Hearing, Reason>
-    ensures answer { result ≡ hearing_of (hears page.now row.old sender body.now) }
-    ensures row { row.new ≡ in_stage (left_of row.old.stage (hears page.now row.old sender body.now)) row.old }
+    ensures answer { result ≡ hearing_of (hears page.now row.old sender message.now.body) }
+    ensures row { row.new ≡ in_stage (left_of row.old.stage (hears page.now row.old sender message.now.body)) row.old }
 {
     let survivors = row.survivors;
-    match &mut row.stage {
-        Stage::Idle => Err(Reason::NotHeard),
-        Stage::Gathering(_, gathered) => hear_gathering(page, survivors, gathered, sender, body),
-        Stage::Confirming(_, confirmed) => hear_confirming(page, confirmed, sender, body),
-        Stage::Applying(_, applied) => hear_applying(page, applied, sender, body),
-        Stage::Entering(_, entered) => hear_entering(page, entered, sender, body),
-        Stage::Round(_, reports) => hear_round(page, reports, sender, body),
+    match (&mut row.stage, &message.body) {
+        (Stage::Gathering(_, gathered), Body::State(component, _)) => {
+            let survives = survivors.contains(sender.number());
+            let hears = survives && is_component(page.component, *component);
+            hear_state(&mut gathered.states, hears, sender)
+        }
+        (Stage::Gathering(_, gathered), Body::Recorded(number, part)) => {
+            let hears = is_one_above(page.component, *number);
+            hear_recorded(&mut gathered.recorders, hears, sender, *part)
+        }
+        (Stage::Gathering(_, gathered), Body::Report(report)) => {
+            hear_reconfiguring(&mut gathered.answered, report)
+        }
+        (Stage::Confirming(_, confirmed), Body::Recorded(number, part)) => {
+            let hears = is_recorded(page.recorded, *number);
+            hear_recorded(&mut confirmed.recorders, hears, sender, *part)
+        }
+        (Stage::Confirming(_, confirmed), Body::Report(report)) => {
+            hear_reconfiguring(&mut confirmed.answered, report)
+        }
+        (Stage::Applying(_, applied), Body::State(component, theirs)) => {
+            hear_reference(page, applied, sender, *component, *theirs)
+        }
+        (Stage::Applying(_, applied), Body::Join) => hear_join(applied, sender),
+        (Stage::Applying(_, _), Body::Abort) => Ok(Hearing::Aborted),
+        (Stage::Entering(_, entered), Body::Recorded(number, part)) => {
+            let hears = is_recorded(page.recorded, *number);
+            hear_recorded(&mut entered.recorders, hears, sender, *part)
+        }
+        (Stage::Round(_, reports), Body::Report(report)) => {
+            hear_report(page, reports, sender, report)
+        }
+        _ => Err(Reason::NotHeard),
     }
 }

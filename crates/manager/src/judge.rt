@@ -1,6 +1,6 @@
 // Judging a head, stage by stage.
 ghost use Rattle.std.specs.Prelude.{◌≡◌, ◌<◌};
-ghost use Rattle.manager.specs.Verdicts.{gathering_verdict, carrying_verdict, confirming_verdict, possible_senders, asked, need_met, applying_verdict, entering_verdict, unheard, heard_of, round_end, round_verdict, verdict_of};
+ghost use Rattle.manager.specs.Verdicts.{gathering_verdict, carrying_verdict, confirming_verdict, sources_of, possible_senders, asked, need_met, applying_verdict, entering_verdict, unheard, heard_of, round_end, round_verdict, verdict_of};
 
 use super::need::Need;
 use super::terms::Terms;
@@ -20,24 +20,36 @@ fn unheard(head: Head, survivors: ReplicaSet, recorders: Recorders) -> ReplicaSe
     head.set.difference(survivors).difference(recorders.all())
 }
 
+// The sources of a newcomer before a reference, which are not kept: the head without itself and without those whose Join it heard.
+fn sources(replica: Replica, head: Head, applied: &Applied) -> ReplicaSet
+    ensures { result.0 ≡ sources_of replica head applied.now }
+{
+    head.set.without(replica.number()).difference(applied.joins)
+}
+
 // Who may still send a State: the sources or, with a reference, its members in the head; never itself or the lost.
 fn possible_senders(replica: Replica, lost: ReplicaSet, head: Head, applied: &Applied) -> ReplicaSet
     ensures { result.0 ≡ possible_senders replica lost.0 head applied.now applied.now.reference }
 {
-    let senders = applied.reference.map_or(applied.sources, |reference| {
-        reference.component.set.intersection(head.set)
-    });
+    let senders = applied
+        .reference
+        .map_or(sources(replica, head, applied), |reference| {
+            reference.component.set.intersection(head.set)
+        });
     senders.difference(lost.with(replica.number()))
 }
 
 // Out of how many States are asked.
-fn asked(applied: &Applied) -> u32
-    ensures value { result ≡ asked applied.now applied.now.reference }
+fn asked(replica: Replica, head: Head, applied: &Applied) -> u32
+    ensures value { result ≡ asked replica head applied.now applied.now.reference }
     ensures bound { result < 17 }
 {
     applied
         .reference
-        .map_or(applied.sources, |reference| reference.component.set)
+        .map_or(
+            sources(replica, head, applied),
+            |reference| reference.component.set,
+        )
         .len()
 }
 
@@ -126,11 +138,12 @@ impl<R: QuorumRule> Terms<'_, R> {
         if is_need_met(self.need, applied) {
             return Verdict::Records;
         }
-        if applied.sources.is_empty() {
+        if sources(self.replica, head, applied).is_empty() {
             return Verdict::Closes;
         }
         let senders = possible_senders(self.replica, lost, head, applied);
-        if applied.states.union(senders).len() < self.need.of(asked(applied)) {
+        let asked = asked(self.replica, head, applied);
+        if applied.states.union(senders).len() < self.need.of(asked) {
             return Verdict::Closes;
         }
         Verdict::Stays
@@ -166,7 +179,7 @@ impl<R: QuorumRule> Terms<'_, R> {
     fn judge_round(&self, lost: ReplicaSet, head: Head, reports: &[Option<Report>; 16]) -> Verdict
         ensures { result ≡ round_verdict (R.carries self.now.rule.now) lost.0 head reports.now }
     {
-        if !lost.is_empty() {
+        if !lost.intersection(head.set).is_empty() {
             return Verdict::Ends(Outcome::LostMember, None);
         }
         if !head.set.is_subset(heard_of(reports)) {

@@ -37,11 +37,10 @@ fn gather(replica: Replica, row: &mut Row, head: Head)
     row.stage = Stage::Gathering(head, gathered);
 }
 
-fn apply(replica: Replica, row: &mut Row, head: Head)
-    ensures { row.new ≡ applying_row replica row.old head }
+fn apply(row: &mut Row, head: Head)
+    ensures { row.new ≡ applying_row row.old head }
 {
     let applied = Applied {
-        sources: head.set.without(replica.number()),
         joins: ReplicaSet::EMPTY,
         states: ReplicaSet::EMPTY,
         reference: None,
@@ -115,7 +114,7 @@ impl<R: QuorumRule> Terms<'_, R> {
         page.top = head.stamp;
         match page.mode {
             Mode::Waiting => {
-                apply(self.replica, row, head);
+                apply(row, head);
                 let join = message(self.replica, head, Body::Join);
                 self.judge_head(page, row, Some(join))
             }

@@ -8,7 +8,7 @@ use Rattle.quorum.specs.Members.{has}
 use Rattle.rounds.specs.Reports.{reported}
 use Rattle.rounds.specs.declared.report.Report.{Report}
 use Rattle.rows.specs.Recorders.{recorders_within}
-use Rattle.rows.specs.Rows.{is_waiting, is_joining, is_normal, is_reconfiguration, head_keeps, survivors_keep, has_next, reference_keeps, under_head, not_later, report_breaks, gathering_keeps, confirming_keeps, applying_keeps, entering_keeps, round_keeps, stage_keeps, row_keeps}
+use Rattle.rows.specs.Rows.{is_waiting, is_joining, is_normal, is_reconfiguration, head_keeps, survivors_keep, has_next, reference_keeps, under_head, report_breaks, gathering_keeps, confirming_keeps, applying_keeps, entering_keeps, round_keeps, stage_keeps, row_keeps}
 use Rattle.rows.specs.declared.row.Applied.{Applied}
 use Rattle.rows.specs.declared.row.Confirmed.{Confirmed}
 use Rattle.rows.specs.declared.row.Entered.{Entered}
@@ -44,7 +44,6 @@ pub record GatheringFacts (r : ℕ) (p : Page) (h : Head) (g : Gathered) : Type 
   pub normal : is_normal p.mode ≡ true
   pub head : HeadFacts r p h
   pub next : has_next p.component ≡ true
-  pub later : not_later h p.recorded ≡ true
   pub states : within g.states.0 h.set.0 ≡ true
   pub recorders : recorders_within g.recorders h.set.0 ≡ true
 
@@ -52,14 +51,13 @@ pub gathering_from : (r : ℕ) (p : Page) (h : Head) (g : Gathered) → gatherin
 gathering_from r p h g e =
     let b = and_parts _ (recorders_within g.recorders h.set.0) e in
     let c = and_parts _ (within g.states.0 h.set.0) b.0 in
-    let d = and_parts _ (not_later h p.recorded) c.0 in
-    let i = and_parts _ (has_next p.component) d.0 in
+    let i = and_parts _ (has_next p.component) c.0 in
     let j = and_parts (is_normal p.mode) (head_keeps r p h) i.0 in
-    record { normal = j.0; head = head_from r p h j.1; next = i.1; later = d.1; states = c.1; recorders = b.1 }
+    record { normal = j.0; head = head_from r p h j.1; next = i.1; states = c.1; recorders = b.1 }
 
 pub gathering_back : (r : ℕ) (p : Page) (h : Head) (g : Gathered) → GatheringFacts r p h g → gathering_keeps r p h g ≡ true
 gathering_back r p h g f =
-    and_from _ _ (and_from _ _ (and_from _ _ (and_from _ _ (and_from _ _ f.normal (head_back r p h f.head)) f.next) f.later) f.states) f.recorders
+    and_from _ _ (and_from _ _ (and_from _ _ (and_from _ _ f.normal (head_back r p h f.head)) f.next) f.states) f.recorders
 
 -- ---- confirming
 pub record ConfirmingFacts (r : ℕ) (p : Page) (h : Head) (g : Confirmed) : Type 0 where
@@ -84,7 +82,6 @@ pub record ApplyingFacts (r : ℕ) (p : Page) (h : Head) (a : Applied) : Type 0 
   pub waiting : is_waiting p.mode ≡ true
   pub head : HeadFacts r p h
   pub reference : reference_keeps a.reference ≡ true
-  pub sources : within a.sources.0 h.set.0 ≡ true
   pub joins : within a.joins.0 h.set.0 ≡ true
   pub states : within a.states.0 h.set.0 ≡ true
 
@@ -92,14 +89,13 @@ pub applying_from : (r : ℕ) (p : Page) (h : Head) (a : Applied) → applying_k
 applying_from r p h a e =
     let x = and_parts _ (within a.states.0 h.set.0) e in
     let b = and_parts _ (within a.joins.0 h.set.0) x.0 in
-    let c = and_parts _ (within a.sources.0 h.set.0) b.0 in
-    let d = and_parts _ (reference_keeps a.reference) c.0 in
+    let d = and_parts _ (reference_keeps a.reference) b.0 in
     let i = and_parts (is_waiting p.mode) (head_keeps r p h) d.0 in
-    record { waiting = i.0; head = head_from r p h i.1; reference = d.1; sources = c.1; joins = b.1; states = x.1 }
+    record { waiting = i.0; head = head_from r p h i.1; reference = d.1; joins = b.1; states = x.1 }
 
 pub applying_back : (r : ℕ) (p : Page) (h : Head) (a : Applied) → ApplyingFacts r p h a → applying_keeps r p h a ≡ true
 applying_back r p h a f =
-    and_from _ _ (and_from _ _ (and_from _ _ (and_from _ _ (and_from _ _ f.waiting (head_back r p h f.head)) f.reference) f.sources) f.joins) f.states
+    and_from _ _ (and_from _ _ (and_from _ _ (and_from _ _ f.waiting (head_back r p h f.head)) f.reference) f.joins) f.states
 
 -- ---- entering
 pub record EnteringFacts (r : ℕ) (p : Page) (h : Head) (e : Entered) : Type 0 where

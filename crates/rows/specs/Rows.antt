@@ -71,20 +71,15 @@ abbrev pub under_head : Head → Option Recorded → Bool
 under_head h None = false
 under_head h (Some s) = s.stamp.0 == h.stamp.0 && s.view.set.0 == h.set.0
 
--- a recorded view, if there is one, is not under a later stamp than the head's
-abbrev pub not_later : Head → Option Recorded → Bool
-not_later h None = true
-not_later h (Some s) = nat_le s.stamp.0 h.stamp.0
-
 -- a report against the rules, or of a replica outside the head
 abbrev pub report_breaks : Head → ℕ → Option Report → Bool
 report_breaks h q None = false
-report_breaks h q (Some m) = not (has h.set.0 q && report_keeps q h m)
+report_breaks h q (Some m) = not (has h.set.0 q && report_keeps q m)
 
 -- gathering goes with mode normal
 abbrev pub gathering_keeps : ℕ → Page → Head → Gathered → Bool
 gathering_keeps r p h g =
-    is_normal p.mode && head_keeps r p h && has_next p.component && not_later h p.recorded
+    is_normal p.mode && head_keeps r p h && has_next p.component
     && within g.states.0 h.set.0 && recorders_within g.recorders h.set.0
 
 -- confirming goes with mode normal, the recorded view under the head
@@ -96,7 +91,7 @@ confirming_keeps r p h g =
 abbrev pub applying_keeps : ℕ → Page → Head → Applied → Bool
 applying_keeps r p h a =
     is_waiting p.mode && head_keeps r p h && reference_keeps a.reference
-    && within a.sources.0 h.set.0 && within a.joins.0 h.set.0 && within a.states.0 h.set.0
+    && within a.joins.0 h.set.0 && within a.states.0 h.set.0
 
 -- entering goes with mode joining, the recorded view under the head
 abbrev pub entering_keeps : ℕ → Page → Head → Entered → Bool

@@ -73,10 +73,9 @@ pub struct Confirmed {
     pub answered: bool,
 }
 
-// What was heard while applying: who may still send a State, from whom a Join and a State came, and the reference.
+// What was heard while applying: from whom a Join and a State came, and the reference.
 #[derive(Clone, Copy)]
 pub struct Applied {
-    pub sources: ReplicaSet,
     pub joins: ReplicaSet,
     pub states: ReplicaSet,
     pub reference: Option<Reference>,

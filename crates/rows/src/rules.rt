@@ -1,30 +1,15 @@
 // The rules that messages and rows keep.
 ghost use Rattle.std.specs.Prelude.{◌≡◌, ◌<◌, true};
 ghost use Rattle.rounds.specs.Reports.{reported};
-ghost use Rattle.rows.specs.Messages.{kind_number, reporting_mode, reported_page, report_keeps, body_keeps, message_keeps};
-ghost use Rattle.rows.specs.Rows.{head_keeps, survivors_keep, has_next, reference_keeps, under_head, not_later, report_breaks, gathering_keeps, confirming_keeps, applying_keeps, entering_keeps, round_keeps, idle_keeps, stage_keeps, row_keeps};
+ghost use Rattle.rows.specs.Messages.{reporting_mode, lowest_top, reported_page, report_keeps, body_keeps, message_keeps};
+ghost use Rattle.rows.specs.Rows.{head_keeps, survivors_keep, has_next, reference_keeps, under_head, report_breaks, gathering_keeps, confirming_keeps, applying_keeps, entering_keeps, round_keeps, idle_keeps, stage_keeps, row_keeps};
 ghost use Rattle.quorum.specs.Below.{any};
 
 use super::message::{Body, Message};
 use super::row::{Applied, Confirmed, Entered, Gathered, Reference, Row, Stage};
 use quorum::{Replica, ReplicaSet};
 use rounds::Report;
-use stores::{Head, Mode, Number, Page, Recorded, View};
-
-impl Body {
-    // The kind's number. A cast does not give it: the kinds have fields.
-    pub fn number(&self) -> u8
-        ensures { result ≡ kind_number self.now }
-    {
-        match self {
-            Body::State(_, _) => 1,
-            Body::Abort => 2,
-            Body::Join => 3,
-            Body::Recorded(_, _) => 4,
-            Body::Report(_) => 5,
-        }
-    }
-}
+use stores::{Head, Mode, Number, Page, Recorded, Stamp, View};
 
 // A report may tell mode normal or reconfiguration.
 fn is_reporting(mode: Mode) -> bool
@@ -33,23 +18,31 @@ fn is_reporting(mode: Mode) -> bool
     matches!(mode, Mode::Normal | Mode::Reconfiguration)
 }
 
-// The page that a report tells of: the head's stamp stands for the top stamp. It is made of both, so there is no `From` for it.
-fn reported_page(head: Head, report: &Report) -> Page
-    ensures { result ≡ reported_page head report.now }
+// The lowest top stamp that the recorded view's stamp allows.
+fn lowest_top(recorded: Option<Recorded>) -> Stamp
+    ensures { result ≡ lowest_top recorded }
+{
+    recorded.map_or(Stamp(0), |recorded| recorded.stamp)
+}
+
+// A report tells no top stamp, so the rule that bounds the recorded view's stamp by it binds nothing: the page is taken with
+// the lowest top stamp that it allows.
+fn reported_page(report: &Report) -> Page
+    ensures { result ≡ reported_page report.now }
 {
     Page {
         mode: report.mode,
-        top: head.stamp,
+        top: lowest_top(report.recorded),
         mark: report.mark,
         component: report.component,
         recorded: report.recorded,
     }
 }
 
-fn report_keeps_rules(sender: u8, head: Head, report: &Report) -> bool
-    ensures { result ≡ report_keeps sender head report.now }
+fn report_keeps_rules(sender: u8, report: &Report) -> bool
+    ensures { result ≡ report_keeps sender report.now }
 {
-    is_reporting(report.mode) && reported_page(head, report).keeps_rules(sender)
+    is_reporting(report.mode) && reported_page(report).keeps_rules(sender)
 }
 
 fn body_keeps_rules(sender: u8, head: Head, body: &Body) -> bool
@@ -64,7 +57,7 @@ fn body_keeps_rules(sender: u8, head: Head, body: &Body) -> bool
         Body::Abort => true,
         Body::Join => true,
         Body::Recorded(number, _) => Number(1) <= *number && *number <= Number::HIGHEST,
-        Body::Report(report) => report_keeps_rules(sender, head, report),
+        Body::Report(report) => report_keeps_rules(sender, report),
     }
 }
 
@@ -115,19 +108,12 @@ fn is_under(head: Head, recorded: Option<Recorded>) -> bool
     })
 }
 
-fn is_not_later(head: Head, recorded: Option<Recorded>) -> bool
-    ensures { result ≡ not_later head recorded }
-{
-    recorded.is_none_or(|recorded| recorded.stamp <= head.stamp)
-}
-
 fn gathering_keeps_rules(replica: u8, page: &Page, head: Head, gathered: &Gathered) -> bool
     ensures { result ≡ gathering_keeps replica page.now head gathered.now }
 {
     page.mode == Mode::Normal
         && head_keeps_rules(replica, page, head)
         && has_next(page.component)
-        && is_not_later(head, page.recorded)
         && gathered.states.is_subset(head.set)
         && gathered.recorders.is_within(head.set)
 }
@@ -147,7 +133,6 @@ fn applying_keeps_rules(replica: u8, page: &Page, head: Head, applied: &Applied)
     page.mode == Mode::Waiting
         && head_keeps_rules(replica, page, head)
         && reference_keeps_rules(applied.reference)
-        && applied.sources.is_subset(head.set)
         && applied.joins.is_subset(head.set)
         && applied.states.is_subset(head.set)
 }
@@ -168,7 +153,7 @@ fn breaks_rules(head: Head, sender: Replica, report: Option<Report>) -> bool
 {
     let sender = sender.number();
     report.is_some_and(|report| {
-        !(head.set.contains(sender) && report_keeps_rules(sender, head, &report))
+        !(head.set.contains(sender) && report_keeps_rules(sender, &report))
     })
 }
 
