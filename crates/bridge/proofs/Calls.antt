@@ -11,9 +11,8 @@ use Rattle.rows.specs.declared.message.Message.{Message}
 use Rattle.rows.specs.declared.row.Row.{Row}
 use Rattle.rows.specs.declared.row.Stage.{Stage}
 use Rattle.manager.specs.Calls.{head_of, view_refusal, delivery_refusal, loss_refusal, call_refusal, start_refusal, taking_up, losing, started, following, viewed, heard_or_not, delivered_to, delivered, lost_at, stopped_at, started_at}
-use Rattle.manager.specs.Effects.{Effect, effect, in_mode, in_stage, judged_after_loss, without_recording}
+use Rattle.manager.specs.Effects.{Effect, effect, in_mode, in_stage, judged}
 use Rattle.manager.specs.Hearing.{Turn, hears}
-use Rattle.manager.specs.Verdicts.{verdict_of}
 use Rattle.manager.specs.declared.need.Need.{Need}
 use Rattle.rows.specs.declared.message.Posts.TheVariants.{Nothing}
 use Rattle.safety.proofs.Lists.{in_left, in_right}
@@ -22,15 +21,14 @@ use Rattle.safety.specs.Replicas.{node, In}
 use Rattle.safety.specs.Replicas as Moves
 use Rattle.safety.specs.Replicas.Row.{idle}
 use Rattle.bridge.specs.Refines.{MovesTo, ViewMoves, DeliveryMoves, LossMoves, StopMoves, StartMoves, CallsMove, Refines}
-use Rattle.bridge.specs.Seen.{seen_message, seen_post, formed_by}
+use Rattle.bridge.specs.Seen.{seen_message, seen_post}
 use Rattle.manager.proofs.Accepted.{accepted, Delivered, announced, arrived, missed}
 use Rattle.bridge.proofs.Accepted.{staged}
-use Rattle.bridge.proofs.Chains.{one_move, ends_in, forming}
+use Rattle.bridge.proofs.Chains.{one_move, ends_in}
 use Rattle.bridge.proofs.Down.{down_is}
 use Rattle.bridge.proofs.Heard.{Follows, stage_hears}
-use Rattle.bridge.proofs.Judged.{loss_comes, verdict_comes}
+use Rattle.bridge.proofs.Recorded.{at_once, judges}
 use Rattle.quorum.proofs.Refused.{err_ok, ok_inj}
-use Rattle.manager.proofs.Posted.{carried_posts}
 use Rattle.bridge.proofs.TakenUp.{taking_goes}
 
 -- what a message of the post says is in what the moves see of it
@@ -80,12 +78,10 @@ module _ (carries : ℕ → ℕ → Bool) (grows : Grows carries) (meets : Meets
   loss_moves : LossMoves carries need r
   unfolding lost_at
   loss_moves post p w q e i =
-      let a = accepted (loss_refusal r p w q) (judged_after_loss carries need r p (losing w q)) e i in
+      let a = accepted (loss_refusal r p w q) (judged carries need r p (losing w q) None) e i in
       let f = missed r p w q a.0 in
-      let v = verdict_of carries need r p (losing w q) in
       subst (MovesTo carries post r p w (head_of w.stage)) a.1
-      (forming carries post r (sym (ap formed_by (carried_posts r p (losing w q) Nothing (without_recording v))))
-      (loss_comes carries grows meets need r post p (losing w q) v (verdict_comes carries grows meets need r post p (losing w q) f.up (staged r p w f.offer)) Nothing))
+      (at_once carries grows meets need r post (judges carries grows meets need r post p (losing w q) None f.up (staged r p w f.offer)))
 
   -- ---- a stop and a start
   stop_moves : StopMoves carries need r

@@ -26,8 +26,8 @@ use Rattle.rows.specs.declared.row.Row.{Row}
 use Rattle.rows.specs.declared.row.Stage.{Stage}
 use Rattle.rows.specs.declared.row.Stage.TheVariants.{Idle, Gathering, Confirming, Applying, Entering, Round}
 use Rattle.manager.specs.Calls.{head_of}
-use Rattle.manager.specs.Effects.{Effect, in_stage, raised, component_page, component_row, installing, ending, closed, spare_page, spare_row, carried_out, without_recording}
-use Rattle.manager.specs.Verdicts.{need_of, unheard, nobody, gathering_verdict, carrying_verdict, confirming_verdict, need_met, possible_senders, asked, applying_verdict, entering_verdict, heard_of, round_end, round_verdict, with_component, stage_verdict, verdict_of}
+use Rattle.manager.specs.Effects.{Effect, in_stage, raised, component_page, component_row, installing, ending, closed, spare_page, spare_row, carried_out}
+use Rattle.manager.specs.Verdicts.{need_of, unheard, nobody, gathering_verdict, carrying_verdict, confirming_verdict, need_met, sources_of, possible_senders, asked, applying_verdict, entering_verdict, heard_of, round_end, round_verdict, with_component, stage_verdict, verdict_of}
 use Rattle.manager.specs.declared.need.Need.{Need}
 use Rattle.manager.specs.declared.verdict.Verdict.{Verdict}
 use Rattle.manager.specs.declared.verdict.Verdict.TheVariants.{Stays, Records, Installs, Reconfigures, Closes, Forgets, Ends}
@@ -76,16 +76,6 @@ module _ (carries : ℕ → ℕ → Bool) (grows : Grows carries) (meets : Meets
       (posts : Posts) →
       Chain carries post r (node_of p w) [] (settlement_of (head_of w.stage) (carried_out r p w posts v).answer.ended)
       (node_of (carried_out r p w posts v).page (carried_out r p w posts v).row)
-
-  -- after a loss the verdict to record is to stay; either moves nothing
-  pub loss_comes : (p : Page) (w : Row) (v : Verdict) → Comes p w v → Comes p w (without_recording v)
-  loss_comes p w Stays c = c
-  loss_comes p w Records c = λ posts. rest
-  loss_comes p w Installs c = c
-  loss_comes p w Reconfigures c = c
-  loss_comes p w Closes c = c
-  loss_comes p w Forgets c = c
-  loss_comes p w (Ends o v) c = c
 
   -- a part that carries installs, and the rest stays or leaves normal mode
   carrying_comes : (P : Verdict → Type 0) (heard survivors lost set : ℕ) → (carries heard set ≡ true → P Installs) → P Stays → P Reconfigures →
@@ -138,8 +128,8 @@ module _ (carries : ℕ → ℕ → Bool) (grows : Grows carries) (meets : Meets
         let P : Verdict → Type 0 = Comes p (in_stage (Applying h a) w) in
         let closes : P Closes = λ posts. ends_in carries post r (closed_is p w (ap is_normal e)) (one_move carries post r close) in
         cond_both (need_met need a a.reference) Records _ P (λ _. λ posts. rest)
-        (λ _. cond_both (nobody a.sources.0) Closes _ P (λ _. closes)
-        (λ _. cond_both (ltb (size (either a.states.0 (possible_senders r w.lost.0 h a a.reference))) (need_of need (asked a a.reference))) Closes Stays P (λ _. closes) (λ _. λ posts. rest)))
+        (λ _. cond_both (nobody (sources_of r h a)) Closes _ P (λ _. closes)
+        (λ _. cond_both (ltb (size (either a.states.0 (possible_senders r w.lost.0 h a a.reference))) (need_of need (asked r h a a.reference))) Closes Stays P (λ _. closes) (λ _. λ posts. rest)))
 
     -- ---- entering
     entering_comes : (h : Head) (x : Entered) (d : Recorded) → p.component ≡ None → p.recorded ≡ Some d →
@@ -178,7 +168,7 @@ module _ (carries : ℕ → ℕ → Bool) (grows : Grows carries) (meets : Meets
       round_comes : Comes p (in_stage (Round h rs) w) (round_verdict carries w.lost.0 h rs)
       round_comes =
           let P : Verdict → Type 0 = Comes p (in_stage (Round h rs) w) in
-          cond_both (nobody w.lost.0) _ (Ends LostMember None) P
+          cond_both (nobody (both w.lost.0 h.set.0)) _ (Ends LostMember None) P
           (λ _. cond_both (within h.set.0 (heard_of rs)) (Ends (round_end carries h rs).0 (round_end carries h rs).1) Stays P decided_comes (λ _. λ posts. rest))
           (λ _. unsettled_comes LostMember)
 

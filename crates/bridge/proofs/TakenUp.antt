@@ -83,7 +83,7 @@ module _ (carries : ℕ → ℕ → Bool) (grows : Grows carries) (meets : Meets
   mode_goes p w h a Waiting m =
       quietly carries post r (apply h refl)
       (at_once carries grows meets need r post
-      (silently carries grows meets need r post refl (judges carries grows meets need r post (topped p h) (applying_row r w h) (Some (join_message r h)) a.up (m, ((rules_from r p a.offer.page).waiting m).0))))
+      (silently carries grows meets need r post refl (judges carries grows meets need r post (topped p h) (applying_row w h) (Some (join_message r h)) a.up (m, ((rules_from r p a.offer.page).waiting m).0))))
   mode_goes p w h a Joining m = absurd (not_joining r p w h a m)
   mode_goes p w h a Normal m = normal_goes (topped p h) w h a.up a.offer.below m ((rules_from r p a.offer.page).normal m) p.component refl
   mode_goes p w h a Reconfiguration m = begins (topped p h) w h None a.up a.offer.below m refl

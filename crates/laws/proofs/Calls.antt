@@ -1,5 +1,5 @@
 -- The laws of the five calls. Assumes nothing.
-use Rattle.std.proofs.Common.{◌≡◌, ℕ, ◌≤◌, Bool, true, false, is_some, Some, None, Ok, Err, Option, Result, sym, refl, ap, subst, inl, arith}
+use Rattle.std.proofs.Common.{◌≡◌, ℕ, ◌≤◌, ◌≢◌, Bool, true, false, is_some, Some, None, Ok, Err, Option, Result, sym, refl, ap, subst, inl, arith}
 use Rattle.std.proofs.lemmas.Bool.{and_parts}
 use Rattle.quorum.specs.Members.{has}
 use Rattle.quorum.specs.declared.fault.Fault.{Fault}
@@ -20,19 +20,20 @@ use Rattle.stores.specs.declared.page.Mode.TheVariants.{Waiting, Joining, Normal
 use Rattle.stores.specs.declared.page.Page.{Page}
 use Rattle.stores.specs.declared.view.Head.{Head}
 use Rattle.manager.specs.Calls.{head_of, report_message, following, losing, started, call_refusal, view_refusal, delivery_refusal, loss_refusal, start_refusal, taking_up, viewed, heard_or_not, delivered_to, delivered, lost_at, stopped_at, started_at, page_left, row_left}
-use Rattle.manager.specs.Effects.{Effect, effect, in_mode, in_stage, judged_after_loss, without_recording}
+use Rattle.manager.specs.Effects.{Effect, effect, in_mode, in_stage, judged}
 use Rattle.manager.specs.Hearing.{Turn, hears}
 use Rattle.manager.specs.Verdicts.{verdict_of}
 use Rattle.manager.specs.declared.hearing.Hearing.{Hearing}
 use Rattle.manager.specs.declared.hearing.Hearing.TheVariants.{Heard, Answered, Outdone, Aborted}
 use Rattle.manager.specs.declared.need.Need.{Need}
+use Rattle.manager.specs.declared.verdict.Verdict.TheVariants.{Records}
 use Rattle.laws.specs.Laws.{Keeps, Advances, count_of, Lawful, CallsKeep, CallsAdvance, ComponentsFollow, PostsFew, RefusalsLeave}
 use Rattle.manager.proofs.Accepted.{accepted, Offered, called, announced, arrived, missed, startable}
 use Rattle.laws.proofs.Hearing.{HearingKeeps, HeardKeeps, heard_keeps}
-use Rattle.manager.proofs.Posted.{carried_posts}
 use Rattle.laws.proofs.Judged.{Stands, spares, closes}
+use Rattle.laws.proofs.Losses.{loss_posts}
 use Rattle.laws.proofs.Pages.{started_tests}
-use Rattle.laws.proofs.Recording.{judges, judges_loss}
+use Rattle.laws.proofs.Recording.{judges}
 use Rattle.rows.proofs.Facts.{row_parts, row_from}
 use Rattle.laws.proofs.Rows.{down_keeps, up_keeps}
 use Rattle.laws.proofs.TakingUp.{advances_itself, takes_up}
@@ -101,19 +102,20 @@ losing_stage r p up a b (Round h g) e k = k
 pub lost_lawful : (f : ℕ → ℕ → Bool) (need : Need) (r : ℕ) (p : Page) (w : Row) (q : ℕ) (e : Effect) → lost_at f need r p w q ≡ Ok e → Lawful r (head_of w.stage) p e
 unfolding lost_at
 lost_lawful f need r p w q e d =
-    let a = accepted (loss_refusal r p w q) (judged_after_loss f need r p (losing w q)) e d in
+    let a = accepted (loss_refusal r p w q) (judged f need r p (losing w q) None) e d in
     let o = missed r p w q a.0 in
     let k = row_parts r p w o.offer.row in
     let x = losing w q in
     subst (Lawful r (head_of w.stage) p) a.1
-    (judges_loss f need r (head_of w.stage) p p x
-    (stands_so r (head_of w.stage) p x refl (tests_of r p o.offer.page) (row_from r p x k.0 (losing_stage r p w.up w.lost x.lost w.stage o.opened k.1))))
+    (judges f need r (head_of w.stage) p p x
+    (stands_so r (head_of w.stage) p x refl (tests_of r p o.offer.page) (row_from r p x k.0 (losing_stage r p w.up w.lost x.lost w.stage o.opened k.1))) None tt)
 
-pub lost_posts : (f : ℕ → ℕ → Bool) (need : Need) (r : ℕ) (p : Page) (w : Row) (q : ℕ) (e : Effect) → lost_at f need r p w q ≡ Ok e → e.answer.posts ≡ Nothing
+pub lost_posts : (f : ℕ → ℕ → Bool) (need : Need) (r : ℕ) (p : Page) (w : Row) (q : ℕ) (e : Effect) → verdict_of f need r p w ≢ Records → lost_at f need r p w q ≡ Ok e →
+    e.answer.posts ≡ Nothing
 unfolding lost_at
-lost_posts f need r p w q e d =
-    let a = accepted (loss_refusal r p w q) (judged_after_loss f need r p (losing w q)) e d in
-    subst (λ (x : Effect). x.answer.posts ≡ Nothing) a.1 (carried_posts r p (losing w q) Nothing (without_recording (verdict_of f need r p (losing w q))))
+lost_posts f need r p w q e n d =
+    let a = accepted (loss_refusal r p w q) (judged f need r p (losing w q) None) e d in
+    subst (λ (x : Effect). x.answer.posts ≡ Nothing) a.1 (loss_posts f need r p w q n)
 
 -- ---- a replica stops
 pub stopped_so : (r : ℕ) (p : Page) (w : Row) (e : Effect) → stopped_at r p w ≡ Ok e → Offered r p w × (effect p (empty_row false) Nothing ≡ e)

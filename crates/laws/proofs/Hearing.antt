@@ -1,8 +1,7 @@
 -- What is heard leaves the row within its rules, and what is answered keeps the message rules. Assumes nothing.
-use Rattle.std.proofs.Common.{◌≡◌, ℕ, ◌<◌, Bool, true, false, if◌then◌else◌, not, ◌&&◌, ltb, List, length, set, is_some, Some, None, Ok, Err, Option, Result, refl, ap, ◌∙◌, subst, ⊎_elim, arith}
+use Rattle.std.proofs.Common.{◌≡◌, ℕ, ◌<◌, Bool, true, false, if◌then◌else◌, not, ◌&&◌, ltb, List, length, set, is_some, Some, None, Ok, Err, Option, Result, refl, ap, ◌∙◌, subst, ⊎_elim}
 use Rattle.std.proofs.lemmas.List.{get_or-set_same, get_or-set_other, set_past}
 use Rattle.std.proofs.lemmas.Bool.{and_from, and_parts, not_from_true, cases_eq, cases_lt}
-use Rattle.std.proofs.lemmas.Bool.Decides.{nat_tests}
 use Rattle.quorum.specs.Below.{within}
 use Rattle.quorum.specs.Members.{has}
 use Rattle.quorum.specs.Sets.{either, single}
@@ -12,7 +11,7 @@ use Rattle.rounds.specs.Reports.{reported, report_of}
 use Rattle.rounds.specs.declared.report.Report.{Report}
 use Rattle.rows.specs.Recorders.{all_recorders, recorders_within, recorders_with}
 use Rattle.rows.specs.Messages.{reporting_mode, reported_page, report_keeps, body_keeps, message_keeps}
-use Rattle.rows.specs.Rows.{is_joining, is_reconfiguration, reference_keeps, under_head, not_later, report_breaks, stage_keeps}
+use Rattle.rows.specs.Rows.{is_joining, is_reconfiguration, reference_keeps, report_breaks, stage_keeps}
 use Rattle.rows.specs.declared.message.Body.{Body}
 use Rattle.rows.specs.declared.message.Body.TheVariants.{State, Abort, Join, Recorded, Report as Reports}
 use Rattle.rows.specs.declared.row.Applied.{Applied}
@@ -28,7 +27,6 @@ use Rattle.rows.specs.declared.row.Stage.TheVariants.{Idle, Gathering, Confirmin
 use Rattle.stores.specs.Rules.{keeps_rules}
 use Rattle.stores.specs.declared.page.Page.{Page}
 use Rattle.stores.specs.declared.view.Head.{Head}
-use Rattle.stores.specs.declared.view.Recorded.{Recorded as RecordedView}
 use Rattle.stores.specs.declared.view.View.{View}
 use Rattle.manager.specs.Calls.{head_of, report_message}
 use Rattle.manager.specs.Hearing.{Turn, heard_if, turned, one_above, as_recorded, as_component, reaches_mark, as_reference, fixed, gathered_state, gathered_recorded, gathered_answer, hears_gathering, confirmed_recorded, confirmed_answer, hears_confirming, applied_state, applied_join, hears_applying, entered_recorded, hears_entering, outdoes, hears_round, hears_stage, hears}
@@ -36,14 +34,14 @@ use Rattle.manager.specs.declared.hearing.Hearing.{Hearing}
 use Rattle.manager.specs.declared.hearing.Hearing.TheVariants.{Heard, Answered, Outdone, Aborted}
 use Rattle.laws.proofs.Pages.{reported_tests}
 use Rattle.rows.proofs.Facts.{GatheringFacts, gathering_from, gathering_back, ConfirmingFacts, confirming_from, confirming_back, ApplyingFacts, applying_from, applying_back, EnteringFacts, entering_from, entering_back, RoundFacts, round_from, round_back, mode_normal, mode_waiting}
-use Rattle.laws.proofs.Subsets.{within_added, within_less, recorders_added}
+use Rattle.laws.proofs.Subsets.{within_added, recorders_added}
 use Rattle.stores.proofs.Kept.{Tests, of_tests}
 
 -- a report more, of a member of the head
-pub one_more : (h : Head) (q : ℕ) (rs : List (Option Report)) (m : Report) → has h.set.0 q ≡ true → report_keeps q h m ≡ true →
+pub one_more : (h : Head) (q : ℕ) (rs : List (Option Report)) (m : Report) → has h.set.0 q ≡ true → report_keeps q m ≡ true →
     ((k : ℕ) → k < 16 → report_breaks h k (reported rs k) ≡ false) → (k : ℕ) → k < 16 → report_breaks h k (reported (set rs q (Some m)) k) ≡ false
 one_more h q rs m i n old k l =
-    let new : report_breaks h q (Some m) ≡ false = not_from_true _ (and_from (has h.set.0 q) (report_keeps q h m) i n) in
+    let new : report_breaks h q (Some m) ≡ false = not_from_true _ (and_from (has h.set.0 q) (report_keeps q m) i n) in
     ⊎_elim
     (λ e. ⊎_elim
     (λ i. ap (λ j. report_breaks h j (reported (set rs q (Some m)) j)) e ∙ ap (report_breaks h q) (get_or-set_same rs q (Some m) None i) ∙ new)
@@ -52,17 +50,13 @@ one_more h q rs m i n old k l =
     (cases_eq k q)
 
 -- ---- a replica's own report
-pub report_kept : (r : ℕ) (p : Page) (h : Head) → Tests r p → reporting_mode p.mode ≡ true → not_later h p.recorded ≡ true → report_keeps r h (report_of p) ≡ true
-report_kept r p h t m n =
-    and_from (reporting_mode p.mode) (keeps_rules r (reported_page h (report_of p))) m (of_tests r (reported_page h (report_of p)) (reported_tests r p h n t))
+pub report_kept : (r : ℕ) (p : Page) → Tests r p → reporting_mode p.mode ≡ true → report_keeps r (report_of p) ≡ true
+report_kept r p t m =
+    and_from (reporting_mode p.mode) (keeps_rules r (reported_page (report_of p))) m (of_tests r (reported_page (report_of p)) (reported_tests r p t))
 
-pub report_told : (r : ℕ) (p : Page) (h : Head) → has h.set.0 r ≡ true → report_keeps r h (report_of p) ≡ true → message_keeps (report_message r h p) ≡ true
+pub report_told : (r : ℕ) (p : Page) (h : Head) → has h.set.0 r ≡ true → report_keeps r (report_of p) ≡ true → message_keeps (report_message r h p) ≡ true
 unfolding message_keeps
-report_told r p h i k = and_from (has h.set.0 r) (report_keeps r h (report_of p)) i k
-
-under_not_later : (h : Head) (o : Option RecordedView) → under_head h o ≡ true → not_later h o ≡ true
-under_not_later h None e = refl
-under_not_later h (Some s) e = grind (arith, nat_tests)
+report_told r p h i k = and_from (has h.set.0 r) (report_keeps r (report_of p)) i k
 
 -- ---- a turn: the stage that is left, under the same head, and what follows
 module _ (r : ℕ) (p : Page) (head : Option Head) (up : Bool) (lost : ReplicaSet) where
@@ -93,8 +87,8 @@ module _ (r : ℕ) (p : Page) (head : Option Head) (up : Bool) (lost : ReplicaSe
     more : (x : Recorders) (part : Part) → recorders_within x h.set.0 ≡ true → recorders_within (recorders_with x q part) h.set.0 ≡ true
     more x part i = recorders_added x h.set.0 q part i sender
 
-    answer : has h.set.0 r ≡ true → reporting_mode p.mode ≡ true → not_later h p.recorded ≡ true → HearingKeeps Answered
-    answer i m n k e = subst (λ (x : Head). message_keeps (report_message r x p) ≡ true) (same_head_of e) (report_told r p h i (report_kept r p h tests m n))
+    answer : has h.set.0 r ≡ true → reporting_mode p.mode ≡ true → HearingKeeps Answered
+    answer i m k e = subst (λ (x : Head). message_keeps (report_message r x p) ≡ true) (same_head_of e) (report_told r p h i (report_kept r p tests m))
       where
         same_head_of : {k : Head} → head ≡ Some k → h ≡ k
         same_head_of e = cc
@@ -105,7 +99,7 @@ module _ (r : ℕ) (p : Page) (head : Option Head) (up : Bool) (lost : ReplicaSe
         heard (Gathering h) (has survivors.0 q && as_component p.component c) (has g.states.0 q) (gathered_state g q) Heard
         (record {
           stage = gathering_back r p h (gathered_state g q)
-              (record { normal = f.normal; head = f.head; next = f.next; later = f.later; states = added g.states f.states; recorders = f.recorders });
+              (record { normal = f.normal; head = f.head; next = f.next; states = added g.states f.states; recorders = f.recorders });
           same = open_head;
           hearing = tt;
         })
@@ -115,7 +109,7 @@ module _ (r : ℕ) (p : Page) (head : Option Head) (up : Bool) (lost : ReplicaSe
         heard (Gathering h) (one_above p.component n) (has (all_recorders g.recorders) q) (gathered_recorded g q part) Heard
         (record {
           stage = gathering_back r p h (gathered_recorded g q part)
-              (record { normal = f.normal; head = f.head; next = f.next; later = f.later; states = f.states; recorders = more g.recorders part f.recorders });
+              (record { normal = f.normal; head = f.head; next = f.next; states = f.states; recorders = more g.recorders part f.recorders });
           same = open_head;
           hearing = tt;
         })
@@ -124,7 +118,7 @@ module _ (r : ℕ) (p : Page) (head : Option Head) (up : Bool) (lost : ReplicaSe
         (record {
           stage = gathering_back r p h g f;
           same = open_head;
-          hearing = answer f.head.holds (ap reporting_mode (mode_normal p.mode f.normal)) f.later;
+          hearing = answer f.head.holds (ap reporting_mode (mode_normal p.mode f.normal));
         })
 
     -- ---- confirming
@@ -145,7 +139,7 @@ module _ (r : ℕ) (p : Page) (head : Option Head) (up : Bool) (lost : ReplicaSe
         (record {
           stage = confirming_back r p h g f;
           same = open_head;
-          hearing = answer f.head.holds (ap reporting_mode (mode_normal p.mode f.normal)) (under_not_later h p.recorded f.under);
+          hearing = answer f.head.holds (ap reporting_mode (mode_normal p.mode f.normal));
         })
 
     -- ---- applying
@@ -160,7 +154,7 @@ module _ (r : ℕ) (p : Page) (head : Option Head) (up : Bool) (lost : ReplicaSe
         heard (Applying h) (reaches_mark p.mark c.number && as_reference a.reference c) (has a.states.0 q) (applied_state a q c s) Heard
         (record {
           stage = applying_back r p h (applied_state a q c s)
-              (record { waiting = f.waiting; head = f.head; reference = reference_fixed a.reference c s f.reference y.0; sources = f.sources; joins = f.joins; states = added a.states f.states });
+              (record { waiting = f.waiting; head = f.head; reference = reference_fixed a.reference c s f.reference y.0; joins = f.joins; states = added a.states f.states });
           same = open_head;
           hearing = tt;
         })
@@ -169,7 +163,7 @@ module _ (r : ℕ) (p : Page) (head : Option Head) (up : Bool) (lost : ReplicaSe
         heard (Applying h) (not (is_some a.reference)) (has a.joins.0 q) (applied_join a q) Heard
         (record {
           stage = applying_back r p h (applied_join a q)
-              (record { waiting = f.waiting; head = f.head; reference = f.reference; sources = within_less a.sources.0 (single q) h.set.0 f.sources; joins = added a.joins f.joins; states = f.states });
+              (record { waiting = f.waiting; head = f.head; reference = f.reference; joins = added a.joins f.joins; states = f.states });
           same = open_head;
           hearing = tt;
         })

@@ -23,8 +23,8 @@ use Rattle.stores.specs.declared.view.Number.{Number}
 use Rattle.stores.specs.declared.view.Recorded.{Recorded}
 use Rattle.stores.specs.declared.view.View.{View}
 use Rattle.manager.specs.Calls.{head_of}
-use Rattle.manager.specs.Effects.{effect, ending, in_mode, closed, raised, component_page, component_row, spare_page, spare_row, installing, settling, carried_out, recorded_message, without_recording}
-use Rattle.manager.specs.Verdicts.{need_of, unheard, nobody, gathering_verdict, carrying_verdict, possible_senders, asked, need_met, heard_of, round_end, with_component, stage_verdict, verdict_of}
+use Rattle.manager.specs.Effects.{effect, ending, in_mode, closed, raised, component_page, component_row, spare_page, spare_row, installing, settling, carried_out, recorded_message}
+use Rattle.manager.specs.Verdicts.{need_of, unheard, nobody, gathering_verdict, carrying_verdict, sources_of, possible_senders, asked, need_met, heard_of, round_end, with_component, stage_verdict, verdict_of}
 use Rattle.manager.specs.declared.need.Need.{Need}
 use Rattle.manager.specs.declared.verdict.Verdict.{Verdict}
 use Rattle.manager.specs.declared.verdict.Verdict.TheVariants.{Stays, Records, Installs, Reconfigures, Closes, Forgets, Ends}
@@ -101,7 +101,7 @@ stage_fits head f need r p survivors lost up l Idle i t k = tt
 stage_fits head f need r p survivors lost up l (Gathering h g) i t k = gathering_fits head r p need survivors lost h g t (gathering_from r p h g k) p.component
 stage_fits head f need r p survivors lost up l (Confirming h g) i t k = confirming_fits head r p f survivors lost h g i t (confirming_from r p h g k) p.component
 stage_fits head f need r p survivors lost up l (Applying h a) i t k =
-    applying_chain head p (need_met need a a.reference) (nobody a.sources.0) (ltb (size (either a.states.0 (possible_senders r lost h a a.reference))) (need_of need (asked a a.reference)))
+    applying_chain head p (need_met need a a.reference) (nobody (sources_of r h a)) (ltb (size (either a.states.0 (possible_senders r lost h a a.reference))) (need_of need (asked r h a a.reference)))
     (ap is_joining (mode_waiting p.mode (applying_from r p h a k).waiting))
 stage_fits head f need r p survivors lost up l (Entering h e) i t k =
     let x = entering_from r p h e k in
@@ -112,21 +112,12 @@ stage_fits head f need r p survivors lost up l (Entering h e) i t k =
     (carrying_fits head p f (both e.recorders.members.0 s) s lost e.reference.component.set.0 (h, i, x.under) (has_view r p t (joining_apart p.mode (mode_joining p.mode j)))) j
 stage_fits head f need r p survivors lost up l (Round h rs) i t k =
     let x = round_from r p h rs k in
-    round_chain head p (round_end f h rs).0 (round_end f h rs).1 (nobody lost) (within h.set.0 (heard_of rs))
+    round_chain head p (round_end f h rs).0 (round_end f h rs).1 (nobody (both lost h.set.0)) (within h.set.0 (heard_of rs))
     (ap is_joining (mode_reconfiguration p.mode x.reconfiguration)) (end_numbered f h rs x.reports)
 
 pub verdict_fits : (head : Option Head) (f : ℕ → ℕ → Bool) (need : Need) (r : ℕ) (p : Page) (w : Row) → head ≡ head_of w.stage → Tests r p → row_keeps r p w ≡ true → Fits head p (verdict_of f need r p w)
 unfolding verdict_of
 verdict_fits head f need r p w e t k = stage_fits head f need r p w.survivors.0 w.lost.0 w.up w.lost w.stage e t (row_parts r p w k).1
-
-pub without_fits : (head : Option Head) (p : Page) (v : Verdict) → Fits head p v → Fits head p (without_recording v)
-without_fits head p Stays x = x
-without_fits head p Records x = tt
-without_fits head p Installs x = x
-without_fits head p Reconfigures x = x
-without_fits head p Closes x = x
-without_fits head p Forgets x = x
-without_fits head p (Ends o v) x = x
 
 -- ---- a call of replica r that found the page q and posts these has come to the page p and the row w, with its head open and the
 -- component view as it was; what is recorded was so before, or the last message posted tells it

@@ -6,4 +6,5 @@ pub mod Judged
 pub mod Recording
 pub mod Hearing
 pub mod TakingUp
+pub mod Losses
 pub mod Calls

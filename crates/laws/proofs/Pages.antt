@@ -1,10 +1,10 @@
 -- Pages that a call leaves: each keeps the rules. Assumes nothing.
-use Rattle.std.proofs.Common.{◌≡◌, ℕ, ◌+◌, ◌≤◌, Bool, true, false, ◌||◌, is_some, Some, None, Option, sym, refl, arith}
+use Rattle.std.proofs.Common.{◌≡◌, ℕ, ◌+◌, ◌≤◌, Bool, true, false, ◌||◌, is_some, Some, None, Option, sym, refl, ap, arith}
 use Rattle.std.proofs.lemmas.Bool.{and_from, and_parts}
 use Rattle.std.proofs.lemmas.Bool.Decides.{nat_tests}
 use Rattle.quorum.specs.Members.{has}
-use Rattle.rows.specs.Messages.{reported_page}
-use Rattle.rows.specs.Rows.{is_joining, not_later}
+use Rattle.rows.specs.Messages.{lowest_top, reported_page}
+use Rattle.rows.specs.Rows.{is_joining}
 use Rattle.stores.specs.Rules.{mode_fits, mark_fits, marked, component_fits, recorded_fits, numbers_follow}
 use Rattle.stores.specs.declared.page.Mode.{Mode}
 use Rattle.stores.specs.declared.page.Mode.TheVariants.{Waiting, Joining, Normal, Reconfiguration}
@@ -132,10 +132,17 @@ pub topped_tests : (r : ℕ) (p : Page) (h : Head) → p.top.0 ≤ h.stamp.0 →
 topped_tests r p h l t =
     record { mode = t.mode; mark = t.mark; component = t.component; recorded = top_fits r p.top.0 h.stamp.0 p.mark p.recorded t.recorded (λ s e k. omega arith); follow = t.follow }
 
-not_later_stamp : (h : Head) (o : Option Recorded) (s : Recorded) → not_later h o ≡ true → o ≡ Some s → s.stamp.0 ≤ h.stamp.0
-not_later_stamp h o s n e = let k = rw e at n in grind (arith, nat_tests)
+lowest_fits : (o : Option Recorded) (s : Recorded) → o ≡ Some s → s.stamp.0 ≤ (lowest_top o).0
+lowest_fits None s e = absurd cc
+lowest_fits (Some t) s e = let same : t ≡ s = cc in let stamps : t.stamp.0 ≡ s.stamp.0 = ap (λ (x : Recorded). x.stamp.0) same in omega arith
 
--- the page that its own report under a head tells of
-pub reported_tests : (r : ℕ) (p : Page) (h : Head) → not_later h p.recorded ≡ true → Tests r p → Tests r (reported_page h (report_of p))
-reported_tests r p h n t =
-    record { mode = t.mode; mark = t.mark; component = t.component; recorded = top_fits r p.top.0 h.stamp.0 p.mark p.recorded t.recorded (λ s e k. not_later_stamp h p.recorded s n e); follow = t.follow }
+-- the page that its own report tells of
+pub reported_tests : (r : ℕ) (p : Page) → Tests r p → Tests r (reported_page (report_of p))
+reported_tests r p t =
+    record {
+      mode = t.mode;
+      mark = t.mark;
+      component = t.component;
+      recorded = top_fits r p.top.0 (lowest_top p.recorded).0 p.mark p.recorded t.recorded (λ s e k. lowest_fits p.recorded s e);
+      follow = t.follow;
+    }

@@ -25,13 +25,13 @@ use Rattle.stores.specs.declared.view.Head.{Head}
 use Rattle.stores.specs.declared.view.Recorded.{Recorded}
 use Rattle.stores.specs.declared.view.View.{View}
 use Rattle.manager.specs.Calls.{head_of}
-use Rattle.manager.specs.Effects.{Entry, carried_out, recording, member_row, newcomer_row, recorded_message, next_component, no_entry, member_entry, numbered_entry, newcomer_entry, stage_entry, entry_of, posts_of, judged_again, judged_by, judged, without_recording, judged_after_loss}
+use Rattle.manager.specs.Effects.{Entry, carried_out, recording, member_row, newcomer_row, recorded_message, next_component, no_entry, member_entry, numbered_entry, newcomer_entry, stage_entry, entry_of, posts_of, judged_again, judged_by, judged}
 use Rattle.manager.specs.Verdicts.{verdict_of}
 use Rattle.manager.specs.declared.need.Need.{Need}
 use Rattle.manager.specs.declared.verdict.Verdict.{Verdict}
 use Rattle.manager.specs.declared.verdict.Verdict.TheVariants.{Stays, Records, Installs, Reconfigures, Closes, Forgets, Ends}
 use Rattle.laws.specs.Laws.{PostsKeep, last_of, Lawful}
-use Rattle.laws.proofs.Judged.{Fits, verdict_fits, without_fits, Stands, advances_raised, carried}
+use Rattle.laws.proofs.Judged.{Fits, verdict_fits, Stands, advances_raised, carried}
 use Rattle.laws.proofs.Pages.{recording_tests}
 use Rattle.rows.proofs.Facts.{row_parts, row_from, HeadFacts, GatheringFacts, gathering_from, confirming_back, applying_from, entering_back, mode_normal, mode_waiting}
 use Rattle.laws.proofs.Subsets.{recorders_none, recorders_added}
@@ -182,6 +182,3 @@ module _ (f : ℕ → ℕ → Bool) (need : Need) (r : ℕ) (head : Option Head)
 
   pub judges : (m : Option Message) → Told m → Lawful r head q (judged f need r p w m)
   judges m t = by_verdict m t (verdict_of f need r p w) fits
-
-  pub judges_loss : Lawful r head q (judged_after_loss f need r p w)
-  judges_loss = carried r head q p w Nothing (st Nothing) tt (without_recording (verdict_of f need r p w)) (without_fits head p (verdict_of f need r p w) fits)

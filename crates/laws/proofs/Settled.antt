@@ -26,12 +26,12 @@ abbrev pub Numbered : Option View → Type 0
 Numbered None = Unit {0}
 Numbered (Some v) = v.number.0 ≤ 1000000000
 
-pub report_rules : (h : Head) (q : ℕ) (m : Report) → report_breaks h q (Some m) ≡ false → PageRules q (reported_page h m)
+pub report_rules : (h : Head) (q : ℕ) (m : Report) → report_breaks h q (Some m) ≡ false → PageRules q (reported_page m)
 report_rules h q m e =
-    let a = not-false (has h.set.0 q && report_keeps q h m) e in
-    let b = and_parts (has h.set.0 q) (report_keeps q h m) a in
-    let c = and_parts (reporting_mode m.mode) (keeps_rules q (reported_page h m)) b.1 in
-    rules_from q (reported_page h m) c.1
+    let a = not-false (has h.set.0 q && report_keeps q m) e in
+    let b = and_parts (has h.set.0 q) (report_keeps q m) a in
+    let c = and_parts (reporting_mode m.mode) (keeps_rules q (reported_page m)) b.1 in
+    rules_from q (reported_page m) c.1
 
 component_numbered : (h : Head) (q : ℕ) (o : Option Report) (v : View) → report_breaks h q o ≡ false → component_of o ≡ Some v → v.number.0 ≤ 1000000000
 component_numbered h q None v b e = absurd (none_some refl e)

@@ -5,25 +5,23 @@ use Rattle.std.proofs.lemmas.Bool.{and_from, cond_both, lt-ltb}
 use Rattle.std.proofs.lemmas.Bool.Decides.{nat_tests}
 use Rattle.quorum.specs.Below.{within}
 use Rattle.quorum.specs.Members.{has}
-use Rattle.quorum.specs.Sets.{less, single}
+use Rattle.quorum.specs.Sets.{single}
 use Rattle.quorum.specs.declared.set.ReplicaSet.{ReplicaSet}
 use Rattle.rounds.specs.Reports.{reported, report_of}
 use Rattle.rows.specs.Messages.{reporting_mode, report_keeps, message_keeps}
 use Rattle.rows.specs.Recorders.{no_recorders}
-use Rattle.rows.specs.Rows.{survivors_keep, has_next, not_later, report_breaks, stage_keeps, row_keeps}
+use Rattle.rows.specs.Rows.{survivors_keep, has_next, report_breaks, stage_keeps, row_keeps}
 use Rattle.rows.specs.declared.message.Message.{Message}
 use Rattle.rows.specs.declared.message.Posts.{Posts}
 use Rattle.rows.specs.declared.message.Posts.TheVariants.{Nothing}
 use Rattle.rows.specs.declared.row.Row.{Row}
 use Rattle.rows.specs.declared.row.Stage.{Stage}
 use Rattle.rows.specs.declared.row.Stage.TheVariants.{Idle, Gathering, Confirming, Applying, Entering, Round}
-use Rattle.stores.specs.Rules.{recorded_fits}
 use Rattle.stores.specs.declared.page.Mode.{Mode}
 use Rattle.stores.specs.declared.page.Mode.TheVariants.{Waiting, Joining, Normal, Reconfiguration}
 use Rattle.stores.specs.declared.page.Page.{Page}
 use Rattle.stores.specs.declared.view.Head.{Head}
 use Rattle.stores.specs.declared.view.Number.{Number}
-use Rattle.stores.specs.declared.view.Recorded.{Recorded}
 use Rattle.stores.specs.declared.view.View.{View}
 use Rattle.manager.specs.Calls.{head_of, report_message, own_reports, round_row, beginning, topped, thinned, gathering_row, state_message, abort_message, join_message, applying_row, member_takes_up, normal_takes_up, mode_takes_up, taking_up}
 use Rattle.manager.specs.Effects.{in_mode, effect, posts_of, entry_of, judged, judged_again}
@@ -36,7 +34,7 @@ use Rattle.manager.proofs.Accepted.{Announced}
 use Rattle.laws.proofs.Pages.{topped_tests, reconfigured_tests, has_view}
 use Rattle.laws.proofs.Recording.{Told, posts_keep, entry_stands, again, judges}
 use Rattle.rows.proofs.Facts.{row_parts, row_from, gathering_back, applying_back, round_back}
-use Rattle.laws.proofs.Subsets.{within_itself, within_none, within_alone, within_less, within_first, within_second, recorders_none}
+use Rattle.laws.proofs.Subsets.{within_none, within_alone, within_first, within_second, recorders_none}
 use Rattle.stores.proofs.Kept.{Tests, of_tests, tests_of}
 
 -- a page is not behind itself
@@ -62,14 +60,6 @@ state_told r h c s i l a b =
 module _ (f : ℕ → ℕ → Bool) (need : Need) (r : ℕ) (p : Page) (w : Row) (h : Head) (a : Announced r p w h) where
   page : Tests r p
   page = tests_of r p a.offer.page
-
-  -- nothing was recorded under a later stamp
-  recorded_before : (o : Option Recorded) → recorded_fits r p.top.0 p.mark o ≡ true → not_later h o ≡ true
-  recorded_before None e = refl
-  recorded_before (Some s) e = let l = a.later in grind (arith, nat_tests)
-
-  before : not_later h p.recorded ≡ true
-  before = recorded_before p.recorded page.recorded
 
   survivors_in : survivors_keep w.survivors p.component ≡ true
   survivors_in = (row_parts r p w a.offer.row).0
@@ -105,14 +95,13 @@ module _ (f : ℕ → ℕ → Bool) (need : Need) (r : ℕ) (p : Page) (w : Row)
   }
 
   -- ---- a round begins
-  own_kept : (x : Page) → report_keeps r h (report_of x) ≡ true → (k : ℕ) → k < 16 → report_breaks h k (reported (own_reports r x) k) ≡ false
+  own_kept : (x : Page) → report_keeps r (report_of x) ≡ true → (k : ℕ) → k < 16 → report_breaks h k (reported (own_reports r x) k) ≡ false
   own_kept x n = one_more h r (replicate 16 None) (report_of x) a.member n (λ k l. ap (report_breaks h k) (get_or-replicate 16 k None None l))
 
   begins : (x : Page) (y : Row) (first : Option Message) → x.mode ≡ Reconfiguration → Tests r x → h.stamp.0 ≤ x.top.0 → survivors_keep y.survivors x.component ≡ true →
       Advances p x → x.component ≡ p.component → x.recorded ≡ p.recorded → Told first → Lawful r (Some h) p (beginning f need r x y h first)
   begins x y first m t l s v c d told =
-      let late : not_later h x.recorded ≡ true = ap (not_later h) d ∙ before in
-      let own = report_kept r x h t (ap reporting_mode m) late in
+      let own = report_kept r x t (ap reporting_mode m) in
       let keep : row_keeps r x (round_row r x y h) ≡ true =
       row_from r x (round_row r x y h) s (round_back r x h (own_reports r x)
       (record { reconfiguration = rw m; head = record { holds = a.member; stamped = l }; reports = own_kept x own })) in
@@ -122,16 +111,15 @@ module _ (f : ℕ → ℕ → Bool) (need : Need) (r : ℕ) (p : Page) (w : Row)
       (verdict_of f need r x (round_row r x y h)) (verdict_fits (Some h) f need r x (round_row r x y h) refl t keep)
 
   -- ---- waiting
-  waits : p.mode ≡ Waiting → Lawful r (Some h) p (judged f need r (topped p h) (applying_row r w h) (Some (join_message r h)))
+  waits : p.mode ≡ Waiting → Lawful r (Some h) p (judged f need r (topped p h) (applying_row w h) (Some (join_message r h)))
   waits m =
-      judges f need r (Some h) p (topped p h) (applying_row r w h)
-      (topped_stands (applying_row r w h) refl (row_from r (topped p h) (applying_row r w h) survivors_in
-      (applying_back r (topped p h) h (record { sources = record { 0 = less h.set.0 (single r) }; joins = record { 0 = 0 }; states = record { 0 = 0 }; reference = None })
+      judges f need r (Some h) p (topped p h) (applying_row w h)
+      (topped_stands (applying_row w h) refl (row_from r (topped p h) (applying_row w h) survivors_in
+      (applying_back r (topped p h) h (record { joins = record { 0 = 0 }; states = record { 0 = 0 }; reference = None })
       (record {
         waiting = rw m;
         head = record { holds = a.member; stamped = le_refl h.stamp.0 };
         reference = refl;
-        sources = within_less h.set.0 (single r) h.set.0 (within_itself h.set.0);
         joins = within_none h.set.0;
         states = within_none h.set.0;
       }))))
@@ -159,7 +147,6 @@ module _ (f : ℕ → ℕ → Bool) (need : Need) (r : ℕ) (p : Page) (w : Row)
           normal = rw m;
           head = record { holds = a.member; stamped = le_refl h.stamp.0 };
           next = next;
-          later = before;
           states = within_alone h.set.0 r a.member;
           recorders = recorders_none h.set.0;
         })))

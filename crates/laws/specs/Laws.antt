@@ -1,5 +1,5 @@
 -- What every call keeps to, whatever the rule, page, row and argument. Assumes nothing.
-use Rattle.std.specs.Prelude.{◌≡◌, ℕ, ◌+◌, ◌≤◌, Bool, true, false, ◌⊎◌, Some, None, Ok, Err, Option, Result}
+use Rattle.std.specs.Prelude.{◌≡◌, ℕ, ◌+◌, ◌≤◌, Bool, true, false, ◌⊎◌, ◌≢◌, Some, None, Ok, Err, Option, Result}
 use Rattle.quorum.specs.Members.{has}
 use Rattle.quorum.specs.declared.fault.Fault.{Fault}
 use Rattle.rounds.specs.declared.outcome.Outcome.{Outcome}
@@ -21,6 +21,8 @@ use Rattle.stores.specs.declared.view.View.{View}
 use Rattle.manager.specs.declared.need.Need.{Need}
 use Rattle.manager.specs.Calls.{head_of, viewed, delivered, lost_at, stopped_at, started_at, page_left, row_left}
 use Rattle.manager.specs.Effects.{Effect, recorded_message}
+use Rattle.manager.specs.Verdicts.{verdict_of}
+use Rattle.manager.specs.declared.verdict.Verdict.TheVariants.{Records}
 
 -- ---- the rules are kept
 -- each message keeps the message rules
@@ -125,7 +127,7 @@ pub record ComponentsFollow : Type 0 where
 -- no call posts more than two messages; a loss, a stop and a start post nothing
 pub record PostsFew : Type 0 where
   pub at_most_two : (e : Effect) → count_of e.answer.posts ≤ 2
-  pub losses : (f : ℕ → ℕ → Bool) (need : Need) (r : ℕ) (p : Page) (w : Row) (q : ℕ) (e : Effect) → lost_at f need r p w q ≡ Ok e → e.answer.posts ≡ Nothing
+  pub losses : (f : ℕ → ℕ → Bool) (need : Need) (r : ℕ) (p : Page) (w : Row) (q : ℕ) (e : Effect) → verdict_of f need r p w ≢ Records → lost_at f need r p w q ≡ Ok e → e.answer.posts ≡ Nothing
   pub stops : (r : ℕ) (p : Page) (w : Row) (e : Effect) → stopped_at r p w ≡ Ok e → e.answer.posts ≡ Nothing
   pub starts : (r : ℕ) (p : Page) (w : Row) (e : Effect) → started_at r p w ≡ Ok e → e.answer.posts ≡ Nothing
 
