@@ -14,12 +14,13 @@ use Rattle.rounds.specs.declared.report.Report.{Report}
 use Rattle.rows.specs.Messages.{message_keeps}
 use Rattle.rows.specs.Recorders.{adding, no_recorders}
 use Rattle.rows.specs.Rows.{row_keeps, is_normal, empty_row}
+pub use Rattle.rows.specs.Rows.{head_of}
 use Rattle.rows.specs.declared.message.Body.TheVariants.{State, Abort, Join, Report as Reports}
 use Rattle.rows.specs.declared.message.Message.{Message}
 use Rattle.rows.specs.declared.message.Posts.TheVariants.{Nothing}
 use Rattle.rows.specs.declared.row.Row.{Row}
 use Rattle.rows.specs.declared.row.Stage.{Stage}
-use Rattle.rows.specs.declared.row.Stage.TheVariants.{Idle, Gathering, Confirming, Applying, Entering, Round}
+use Rattle.rows.specs.declared.row.Stage.TheVariants.{Gathering, Applying, Round}
 use Rattle.stores.specs.Rules.{keeps_rules}
 use Rattle.stores.specs.Views.{same_head}
 use Rattle.stores.specs.declared.page.Mode.{Mode}
@@ -53,14 +54,6 @@ offer_refusal r p w = option_or (refused_if (not (all_keep r p w)) (refusal Agai
 -- a call at a replica that is to be up
 abbrev pub call_refusal : ℕ → Page → Row → Option Fault
 call_refusal r p w = option_or (offer_refusal r p w) (refused_if (not w.up) (refusal WrongPower r))
-
-abbrev pub head_of : Stage → Option Head
-head_of Idle = None
-head_of (Gathering h g) = Some h
-head_of (Confirming h g) = Some h
-head_of (Applying h a) = Some h
-head_of (Entering h e) = Some h
-head_of (Round h rs) = Some h
 
 -- normal mode at the highest number
 abbrev pub at_highest : Option View → Bool

@@ -1,3 +1,4 @@
+pub mod Facts
 pub mod Messages
 pub mod Recorders
 pub mod Rows

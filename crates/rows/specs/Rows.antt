@@ -47,6 +47,15 @@ is_reconfiguration Joining = false
 is_reconfiguration Normal = false
 is_reconfiguration Reconfiguration = true
 
+-- the head of a stage; idle has none
+abbrev pub head_of : Stage → Option Head
+head_of Idle = None
+head_of (Gathering h g) = Some h
+head_of (Confirming h g) = Some h
+head_of (Applying h a) = Some h
+head_of (Entering h e) = Some h
+head_of (Round h rs) = Some h
+
 -- a head holds its replica, its stamp at most the top stamp
 abbrev pub head_keeps : ℕ → Page → Head → Bool
 head_keeps r p h = has h.set.0 r && nat_le h.stamp.0 p.top.0

@@ -1,6 +1,7 @@
 // The rules that messages and rows keep.
-ghost use Rattle.std.specs.Prelude.{◌≡◌, ◌<◌, true};
+ghost use Rattle.std.specs.Prelude.{◌≡◌, ◌↔◌, ◌<◌, true, IsTrue};
 ghost use Rattle.rounds.specs.Reports.{reported};
+ghost use Rattle.rows.specs.Facts.{MessageRules, RowRules};
 ghost use Rattle.rows.specs.Messages.{reporting_mode, lowest_top, reported_page, report_keeps, body_keeps, message_keeps};
 ghost use Rattle.rows.specs.Rows.{head_keeps, survivors_keep, has_next, reference_keeps, under_head, report_breaks, gathering_keeps, confirming_keeps, applying_keeps, entering_keeps, round_keeps, idle_keeps, stage_keeps, row_keeps};
 ghost use Rattle.quorum.specs.Below.{any};
@@ -66,6 +67,7 @@ impl Message {
     #[tactic(auto, unfolding(crate::specs::Messages::message_keeps))]
     pub fn keeps_rules(&self) -> bool
         ensures test { result ≡ message_keeps self.now }
+        ensures rules { IsTrue result ↔ MessageRules self.now }
         ensures sender { result ≡ true → self.now.sender < 16 }
     {
         self.head.set.contains(self.sender) && body_keeps_rules(self.sender, self.head, &self.body)
@@ -199,7 +201,8 @@ impl Row {
     // Whether this may be the row of the replica, beside its page.
     #[tactic(auto, unfolding(crate::specs::Rows::row_keeps))]
     pub fn keeps_rules(&self, replica: u8, page: &Page) -> bool
-        ensures { result ≡ row_keeps replica page.now self.now }
+        ensures test { result ≡ row_keeps replica page.now self.now }
+        ensures rules { IsTrue result ↔ RowRules replica page.now self.now }
     {
         survivors_keep_rules(self.survivors, page.component)
             && stage_keeps_rules(replica, page, self)
