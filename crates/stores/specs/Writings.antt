@@ -1,9 +1,9 @@
 -- Lists of writes and cuts, and what is read after them. Assumes nothing.
-use Rattle.std.specs.Prelude.{◌≡◌, ℕ, zero, suc, ◌<◌, ◌≤◌, Bool, true, false, if◌then◌else◌, not, ◌&&◌, ◌⊎◌, List, length, Some, None, Option, Result, ◌==◌, slice_index_or}
+use Rattle.std.specs.Prelude.{◌≡◌, ℕ, zero, suc, ◌+◌, ◌<◌, ◌≤◌, Bool, true, false, if◌then◌else◌, not, ◌&&◌, ◌⊎◌, List, length, Some, None, Option, Ok, Err, Result, ◌==◌, slice_index_or}
 use Rattle.quorum.specs.declared.fault.Fault.{Fault}
 use Rattle.stores.specs.declared.page.Page.{Page}
 use Rattle.stores.specs.declared.writing.Writing.{Writing}
-use Rattle.stores.specs.Kept.{fresh, Written, Cut}
+use Rattle.stores.specs.Kept.{fresh, page_at, Written, Cut}
 use Rattle.stores.specs.Rules.{may_be_kept}
 
 -- the writing number i of a list
@@ -19,26 +19,53 @@ abbrev pub Performed : List Page → ℕ → List Page → ℕ → ℕ → Page 
 Performed xs n ys m r q None a = Written xs n ys m r q a
 Performed xs n ys m r q (Some k) a = Cut xs n ys m r q a
 
--- what a cut may leave of a page
+-- what a cut may leave of a page, by what the store says; of a write nothing is left open
 abbrev pub CutLeaves : (ℕ → Page → Page → Page → Type 0) → Option ℕ → Page → Page → Page → Type 0
 CutLeaves leaves None old new q = Unit {0}
 CutLeaves leaves (Some n) old new q = leaves n old new q
 
--- the page that is read after a writing: of a write at the replica asked for, the new one; of a cut there, one that it may leave
-abbrev pub LeftAfter : (ℕ → Page → Page → Page → Type 0) → Bool → Option ℕ → Page → (Page → Type 0) → Page → Type 0
-LeftAfter leaves false cut new Old q = Old q
-LeftAfter leaves true None new Old q = q ≡ new
-LeftAfter leaves true (Some n) new Old q = (old : Page) × Old old × leaves n old new q
+-- the writing carried out, from one store to the next, with one page and at most one place. The store before it settles what
+-- a cut may leave
+pub record CarriedOut {S : Type 0} (pages : S → List Page) (places : S → ℕ) (leaves : S → ℕ → Page → Page → Page → Type 0)
+    (before : S) (w : Writing) (after : S) : Type 0 where
+  pub done : Performed (pages before) (places before) (pages after) (places after) w.replica w.page w.cut (Ok tt)
+  pub left : CutLeaves (leaves before) w.cut (page_at (pages before) w.replica) w.page (page_at (pages after) w.replica)
 
--- q may be read at replica r once the first n writings are carried out, where p was read before them, by what the store says of
--- its cuts: `leaves n old new q` says that a cut at n may leave q
-unfoldable pub Left : (ℕ → Page → Page → Page → Type 0) → ℕ → Page → List Writing → ℕ → Page → Type 0
-Left leaves r p ws zero q = q ≡ p
-Left leaves r p ws (suc n) q = LeftAfter leaves ((writing_at ws n).replica == r) (writing_at ws n).cut (writing_at ws n).page (Left leaves r p ws n) q
+-- the writing refused: the pages and the places are as they were
+pub record TurnedAway {S : Type 0} (pages : S → List Page) (places : S → ℕ) (before : S) (w : Writing) (after : S) : Type 0 where
+  pub fault : Fault
+  pub refused : Performed (pages before) (places before) (pages after) (places after) w.replica w.page w.cut (Err fault)
 
--- the same of any store, whose cuts may all leave the old page or the new one
-abbrev pub MayRead : ℕ → Page → List Writing → ℕ → Page → Type 0
-MayRead r p ws n q = Left (λ _ old new x. (x ≡ old) ⊎ (x ≡ new)) r p ws n q
+-- a chain of stores, from the first to the last, with a step for each of the first n writings
+unfoldable pub Chain : {S : Type 0} → (S → Writing → S → Type 0) → S → List Writing → ℕ → S → Type 0
+Chain Step first ws zero last = last ≡ first
+Chain {S} Step first ws (suc n) last = (before : S) × Chain Step first ws n before × Step before (writing_at ws n) last
+
+-- the first n writings carried out, one after another; the store that is left is the last of that chain, or what a refusal of
+-- the next writing left of it
+pub record Carried {S : Type 0} (pages : S → List Page) (places : S → ℕ) (leaves : S → ℕ → Page → Page → Page → Type 0)
+    (first : S) (ws : List Writing) (n : ℕ) (after : S) : Type 0 where
+  pub last : S
+  pub chain : Chain (CarriedOut pages places leaves) first ws n last
+  pub ends : (after ≡ last) ⊎ ((n < length ws) × TurnedAway pages places last (writing_at ws n) after)
+
+-- what may be read after a writing: elsewhere, what could be read before; there, the page of the writing and, where it was
+-- cut off, also what could be read before
+abbrev pub ReadAfter : Bool → Option ℕ → Page → (Page → Type 0) → Page → Type 0
+ReadAfter false cut new Before q = Before q
+ReadAfter true None new Before q = q ≡ new
+ReadAfter true (Some n) new Before q = (q ≡ new) ⊎ Before q
+
+-- q may be read at replica r once the first n writings are carried out, where p was read before them
+unfoldable pub MayRead : ℕ → Page → List Writing → ℕ → Page → Type 0
+MayRead r p ws zero q = q ≡ p
+MayRead r p ws (suc n) q =
+    ReadAfter ((writing_at ws n).replica == r) (writing_at ws n).cut (writing_at ws n).page (MayRead r p ws n) q
+
+-- the places after n writings: at most as many as before, and at most n fewer
+pub record SpentBy (n : ℕ) (before : ℕ) (after : ℕ) : Type 0 where
+  pub most : after ≤ before
+  pub least : before ≤ after + n
 
 -- held pages take every write, and a cut after one byte-write or more
 abbrev pub taken : Option ℕ → Bool

@@ -50,7 +50,7 @@ impl Store for HeldPages {
 }
 
 impl Breakable for HeldPages {
-    ghost leaves = { held_page };
+    ghost leaves = { λ _. held_page };
 
     // A cut at 0 leaves the old page, any other the new one.
     fn cut(&mut self, kept: KeptPage, n: u64) -> Result<(), Fault>

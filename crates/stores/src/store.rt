@@ -31,11 +31,12 @@ pub trait Store {
 
 // A store whose writes can be broken off.
 pub trait Breakable: Store {
-    // Which page a write broken off after so many byte-writes may leave, where one was and another was to be written.
-    ghost leaves: { ℕ → Page → Page → Page → Type 0 };
+    // Which page a write broken off after so many byte-writes may leave of the store as it was before: where one page was,
+    // and another was to be written.
+    ghost leaves: { Self → ℕ → Page → Page → Page → Type 0 };
 
     // A write broken off after n byte-writes: the page is whole, the old or the new one, and no other page changes.
     fn cut(&mut self, kept: KeptPage, n: u64) -> Result<(), Fault>
         ensures cut { Cut (Self.Store.pages self.old) (Self.Store.places self.old) (Self.Store.pages self.new) (Self.Store.places self.new) kept.replica kept.page result }
-        ensures left { OnOk result (leaves n (page_at (Self.Store.pages self.old) kept.replica) kept.page (page_at (Self.Store.pages self.new) kept.replica)) };
+        ensures left { OnOk result (leaves self.old n (page_at (Self.Store.pages self.old) kept.replica) kept.page (page_at (Self.Store.pages self.new) kept.replica)) };
 }

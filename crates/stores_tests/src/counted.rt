@@ -62,7 +62,7 @@ impl Store for CountedPages {
 }
 
 impl Breakable for CountedPages {
-    ghost leaves = { λ n old new p. p ≡ (if nat_le 8 n then new else old) };
+    ghost leaves = { λ s n old new p. p ≡ (if nat_le 8 n then new else old) };
 
     // A write takes eight byte-writes, and has its place from the fourth on.
     fn cut(&mut self, kept: KeptPage, n: u64) -> Result<(), Fault> {
