@@ -21,14 +21,15 @@ chain_more Step s ws n m t c h = rw add-one (m, c, h)
 
 -- the next writing was refused
 pub ends_refused : {S : Type 0} (pages : S → List Page) (places : S → ℕ) (leaves : S → ℕ → Page → Page → Page → Type 0) (s : S) (ws : List Writing) (n : ℕ) (m t : S) (j : ℕ) (q : Page) (e : Fault) →
-    Chain (CarriedOut pages places leaves) s ws n m → n < length ws → j ≡ (writing_at ws n).replica → q ≡ (writing_at ws n).page →
+    Chain (CarriedOut pages places leaves) s ws n m → n < length ws → acceptable (writing_at ws n) ≡ true → j ≡ (writing_at ws n).replica → q ≡ (writing_at ws n).page →
     Performed (pages m) (places m) (pages t) (places t) j q (writing_at ws n).cut (Err e) → Carried pages places leaves s ws n t
-ends_refused pages places leaves s ws n m t j q e c l here this d = record {
+ends_refused pages places leaves s ws n m t j q e c l ok here this d = record {
   last = m;
   chain = c;
   ends = inr (
     l,
     record {
+      acceptable = ok;
       fault = e;
       refused = subst (λ (p : Page). Performed (pages m) (places m) (pages t) (places t) (writing_at ws n).replica p (writing_at ws n).cut (Err e)) this
           (subst (λ (i : ℕ). Performed (pages m) (places m) (pages t) (places t) i q (writing_at ws n).cut (Err e)) here d);

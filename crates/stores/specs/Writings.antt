@@ -31,8 +31,9 @@ pub record CarriedOut {S : Type 0} (pages : S → List Page) (places : S → ℕ
   pub done : Performed (pages before) (places before) (pages after) (places after) w.replica w.page w.cut (Ok tt)
   pub left : CutLeaves (leaves before) w.cut (page_at (pages before) w.replica) w.page (page_at (pages after) w.replica)
 
--- the writing refused: the pages and the places are as they were
+-- an acceptable writing refused for want of a place: the pages and the places are as they were
 pub record TurnedAway {S : Type 0} (pages : S → List Page) (places : S → ℕ) (before : S) (w : Writing) (after : S) : Type 0 where
+  pub acceptable : acceptable w ≡ true
   pub fault : Fault
   pub refused : Performed (pages before) (places before) (pages after) (places after) w.replica w.page w.cut (Err fault)
 

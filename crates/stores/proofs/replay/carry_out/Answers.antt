@@ -18,4 +18,4 @@ loop-done-preserved g c =
 
 pub returns-in_default-perform-clause-carried : goal.returns-in_default-perform-clause-carried
 returns-in_default-perform-clause-carried g c =
-    ends_refused _ _ _ _ _ _ _ _ _ _ _ c.loop-done.invariant.1 c.loop-done-test.true c.in-Some.ensures.1 c.in-Some.ensures.2 c.in_default-perform.ensures.done
+    ends_refused _ _ _ _ _ _ _ _ _ _ _ c.loop-done.invariant.1 c.loop-done-test.true c.in-Some.ensures.0 c.in-Some.ensures.1 c.in-Some.ensures.2 c.in_default-perform.ensures.done
