@@ -1,6 +1,6 @@
 -- What a chain of writings leaves: its pages and its places. Assumes nothing.
 use Rattle.std.specs.Prelude.{if◌then◌else◌, ◌==◌}
-use Rattle.std.proofs.Common.{◌≡◌, ℕ, zero, suc, ◌+◌, ◌<◌, ◌≤◌, ◌⊎◌, Bool, true, false, not, ◌&&◌, eqb, List, length, slice_set, Some, None, Ok, Err, Option, sym, refl, ap, ◌∙◌, subst, inl, inr, ⊎_elim, add-one, arith}
+use Rattle.std.proofs.Common.{◌≡◌, ℕ, zero, suc, ◌+◌, ◌<◌, Bool, true, false, not, ◌&&◌, eqb, List, length, slice_set, Some, None, Ok, Err, Option, sym, refl, ap, ◌∙◌, subst, inl, inr, ⊎_elim, add-one, arith}
 use Rattle.std.proofs.lemmas.List.{get_or-set_same, get_or-set_other}
 use Rattle.std.proofs.lemmas.Bool.{eqb-true, eq-eqb, false≢true, ltb-true, and_parts}
 use Rattle.quorum.specs.declared.fault.Fault.{Fault}
@@ -8,7 +8,7 @@ use Rattle.stores.specs.declared.held.HeldPages.{HeldPages}
 use Rattle.stores.specs.declared.page.Page.{Page}
 use Rattle.stores.specs.declared.writing.Writing.{Writing}
 use Rattle.stores.specs.Kept.{fresh, held_page, page_at, Spent}
-use Rattle.stores.specs.Writings.{writing_at, acceptable, Performed, CutLeaves, CarriedOut, TurnedAway, Chain, Carried, ReadAfter, MayRead, SpentBy, taken, held_read}
+use Rattle.stores.specs.Writings.{writing_at, acceptable, Performed, CutLeaves, CarriedOut, Chain, Carried, ReadAfter, MayRead, SpentBy, taken, held_read}
 
 -- ---- the chain
 pub chain_none : {S : Type 0} (Step : S → Writing → S → Type 0) (s : S) (ws : List Writing) → Chain Step s ws 0 s

@@ -40,6 +40,7 @@ pub fn carry_out<S: Breakable>(store: &mut S, writings: &[Writing]) -> usize
 }
 
 // The same on held pages, which say which page a cut leaves.
+#[tactic(auto, using(crate::proofs::Reading::held_read_from))]
 pub fn carry_out_held(held: &mut HeldPages, writings: &[Writing]) -> usize
     ensures stopped { Stopped writings.now result ⊥ }
     ensures read { (r : ℕ) → r < 16 → page_at held.new.pages r ≡ held_read r (page_at held.old.pages r) writings.now result }

@@ -71,15 +71,16 @@ fn kept_out(rt: HostRuntime) {
     assert_eq!(rt; carry_out_held(&mut store, &[write(17, 7)]), 0);
 }
 
-// With no place left every write and every cut is refused, and changes nothing.
+// A cut at 7 leaves the old page where two places are left, and the new one where one is. With no place left every write
+// and every cut is refused, and changes nothing.
 #[test]
 fn counted_down(rt: HostRuntime) -> Result<(), Fail> {
     let mut store = CountedPages::new(rt.alloc(), 3)?;
     let writings = [
         write(1, 7),
         cut(1, 8, 3),
-        cut(1, 9, 4),
-        cut(2, 7, 8),
+        cut(1, 9, 7),
+        cut(2, 7, 7),
         write(3, 7),
     ];
     assert_eq!(rt; carry_out(&mut store, &writings), 4);
