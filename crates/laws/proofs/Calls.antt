@@ -72,7 +72,7 @@ told_by : (m : Message) → message_keeps m ≡ true → (has m.head.set.0 m.sen
 unfolding message_keeps
 told_by m e = and_parts (has m.head.set.0 m.sender) (body_keeps m.sender m.head m.body) e
 
-under_same : (m : Message) (o : Option Head) → message_keeps m ≡ true → o ≡ Some m.head → (h : Head) → o ≡ Some h → (has h.set.0 m.sender ≡ true) × (body_keeps m.sender h m.body ≡ true)
+pub under_same : (m : Message) (o : Option Head) → message_keeps m ≡ true → o ≡ Some m.head → (h : Head) → o ≡ Some h → (has h.set.0 m.sender ≡ true) × (body_keeps m.sender h m.body ≡ true)
 under_same m o k e h d =
     let same : m.head ≡ h = cc in
     subst (λ (x : Head). (has x.set.0 m.sender ≡ true) × (body_keeps m.sender x m.body ≡ true)) same (told_by m k)

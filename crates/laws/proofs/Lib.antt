@@ -8,3 +8,4 @@ pub mod Hearing
 pub mod TakingUp
 pub mod Losses
 pub mod Calls
+pub mod Standing

@@ -64,11 +64,11 @@ carrying_never f heard survivors lost set =
     cond_both (f heard set) Installs (if f (either heard (less survivors lost)) set then Stays else Reconfigures) (λ v. v ≢ Records) (λ _ i. cc)
     (λ _. cond_both (f (either heard (less survivors lost)) set) Stays Reconfigures (λ v. v ≢ Records) (λ _ i. cc) (λ _ i. cc))
 
-confirming_never : (f : ℕ → ℕ → Bool) (survivors lost : ℕ) (g : Confirmed) (o : Option View) → with_component o (confirming_verdict f survivors lost g) ≢ Records
+pub confirming_never : (f : ℕ → ℕ → Bool) (survivors lost : ℕ) (g : Confirmed) (o : Option View) → with_component o (confirming_verdict f survivors lost g) ≢ Records
 confirming_never f survivors lost g None i = cc
 confirming_never f survivors lost g (Some c) i = carrying_never f (both g.recorders.members.0 survivors) survivors lost c.set.0 i
 
-entering_never : (f : ℕ → ℕ → Bool) (lost : ℕ) (h : Head) (e : Entered) → entering_verdict f lost h e ≢ Records
+pub entering_never : (f : ℕ → ℕ → Bool) (lost : ℕ) (h : Head) (e : Entered) → entering_verdict f lost h e ≢ Records
 entering_never f lost h e =
     let survivors = e.reference.survivors.0 in
     let missing = unheard h survivors e.recorders in
@@ -77,7 +77,7 @@ entering_never f lost h e =
     (λ _. carrying_never f (both e.recorders.members.0 survivors) survivors lost e.reference.component.set.0)
     (λ _. cond_both (nobody (both missing lost)) Stays Forgets (λ v. v ≢ Records) (λ _ i. cc) (λ _ i. cc))
 
-round_never : (f : ℕ → ℕ → Bool) (lost : ℕ) (h : Head) (rs : List (Option Report)) → round_verdict f lost h rs ≢ Records
+pub round_never : (f : ℕ → ℕ → Bool) (lost : ℕ) (h : Head) (rs : List (Option Report)) → round_verdict f lost h rs ≢ Records
 round_never f lost h rs =
     let ends : Verdict = Ends (round_end f h rs).0 (round_end f h rs).1 in
     cond_both (nobody (both lost h.set.0)) (if within h.set.0 (heard_of rs) then ends else Stays) (Ends LostMember None) (λ v. v ≢ Records)

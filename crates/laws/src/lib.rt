@@ -3,6 +3,7 @@
 #![tactic(auto)]
 
 ghost use Rattle.laws.specs.Laws.{CallsKeep, CallsAdvance, ComponentsFollow, PostsFew, RefusalsLeave};
+ghost use Rattle.laws.specs.Standing.{NoneLeftStanding};
 
 // An accepted call leaves a page and row that keep the rules, and posts only messages that keep them.
 pub fn calls_keep_rules()
@@ -27,4 +28,9 @@ pub fn at_most_two_are_posted()
 // A refusal leaves page and row as they were.
 pub fn refusals_change_nothing()
     ensures { RefusalsLeave }
+{}
+
+// No accepted call leaves a row that stands to be recorded.
+pub fn no_row_stands_to_be_recorded()
+    ensures { NoneLeftStanding }
 {}
