@@ -1,14 +1,12 @@
 -- An accepted call of a floor is a chain of moves at one of the sixteen replicas. Assumes nothing.
-use Rattle.std.proofs.Common.{◌≡◌, ℕ, zero, suc, ◌<◌, Bool, true, false, cond, not, eqb, ltb, leb, List, [], ◌∷◌, length, get_or, Some, None, Ok, Err, Option, Result, sym, refl, ap, ◌∙◌, subst, inl, inr, arith}
+use Rattle.std.proofs.Common.{◌≡◌, ℕ, zero, suc, ◌<◌, Bool, true, false, cond, ltb, List, [], ◌∷◌, length, get_or, Some, None, Ok, Option, sym, refl, ap, ◌∙◌, subst, inl, inr, arith}
 use Rattle.std.proofs.lemmas.Bool.{ltb-true}
-use Rattle.std.specs.Option.{option_or}
 use Rattle.quorum.specs.Laws.{Grows, Meets}
 use Rattle.quorum.specs.declared.fault.Fault.{Fault}
-use Rattle.quorum.specs.declared.fault.Reason.TheVariants.{NoSuchReplica, WrongPower, PostFull}
 use Rattle.bridge.proofs.Calls.{refines}
 use Rattle.bridge.specs.Refines.{MovesTo, CallsMove}
 use Rattle.bridge.specs.Seen.{seen_post, settlement_of, formed_by, node_of}
-use Rattle.manager.specs.Calls.{head_of, message_refusal, start_refusal, started, viewed, lost_at, started_at}
+use Rattle.manager.specs.Calls.{head_of, start_refusal, started, started_at}
 use Rattle.manager.specs.Effects.{Effect, effect, in_mode}
 use Rattle.rounds.specs.declared.outcome.Outcome.{Outcome}
 use Rattle.rows.specs.declared.message.Message.{Message}
@@ -17,18 +15,18 @@ use Rattle.rows.specs.declared.row.Row.{Row}
 use Rattle.safety.proofs.Marks.{none_some, some_inj}
 use Rattle.safety.specs.Moves.{Chain, Settlement}
 use Rattle.safety.specs.Replicas.{In}
-use Rattle.stores.specs.Kept.{page_at, no_place}
+use Rattle.stores.specs.Kept.{page_at}
 use Rattle.stores.specs.declared.page.Page.{Page}
 use Rattle.stores.specs.declared.view.Head.{Head}
 use Rattle.stores.specs.declared.view.View.{View}
 use Rattle.runs.specs.Findings.{head_under}
 use Rattle.runs.specs.Founding.{row_at}
-use Rattle.runs.specs.World.{World, replica_of, unless, message_at, up_test, down_test, loss_test, delivery_test, page_of, row_of, delivered_or_not, asked, full, placed, ruled, floor_refusal}
+use Rattle.runs.specs.World.{World, replica_of, message_at, page_of, row_of, ruled}
 use Rattle.runs.specs.declared.work.Work.{Work}
 use Rattle.runs.specs.declared.work.Work.TheVariants.{View as Views, Deliver, Loss, Start}
-use Rattle.quorum.proofs.Refused.{ok_inj, err_ok, neither, one_of_sixteen}
-use Rattle.runs.proofs.Answered.{let_through}
-use Rattle.quorum.specs.Faults.{refused_if, given}
+use Rattle.quorum.proofs.Refused.{ok_inj, err_ok}
+use Rattle.runs.proofs.Ruled.{ByManager, ruled_accepted}
+use Rattle.quorum.specs.Faults.{given}
 use Rattle.rows.specs.Rows.{empty_row}
 
 -- ---- the message that is delivered stands in the post
@@ -58,51 +56,27 @@ no_settlement : (g h : Option Head) (o : Option (Outcome × Option View)) → o 
 no_settlement g h o e = ap (settlement_of g) e ∙ sym (ap (settlement_of h) e)
 
 module _ (f : ℕ → ℕ → Bool) (grows : Grows f) (meets : Meets f) (w : World) where
+  -- the chain of moves that an effect of this work is
   abbrev IsChain : Work → Effect → Type 0
   IsChain k e =
-      (replica_of k < 16)
-      × MovesTo f (seen_post w.post) (replica_of k) (page_at w.pages (replica_of k)) (row_at w.rows (replica_of k)) (head_under w k) e
+      MovesTo f (seen_post w.post) (replica_of k) (page_at w.pages (replica_of k)) (row_at w.rows (replica_of k))
+      (head_under w k) e
 
   moves : (r : ℕ) → CallsMove f w.need r
   moves r = refines f grows meets w.need r
 
-  up_below : (r : ℕ) → up_test w.rows r ≡ None → r < 16
-  up_below r e = one_of_sixteen r (floor_refusal NoSuchReplica r) (neither (refused_if (leb 16 r) (floor_refusal NoSuchReplica r)) (refused_if (not (row_at w.rows r).up) (floor_refusal WrongPower r)) e).0
-
-  delivery_moves : (r i : ℕ) (o : Option Message) (e : Effect) → message_at w.post i ≡ o →
-      unless (delivery_test w.rows r o) (delivered_or_not f w r o) ≡ Ok e → IsChain (Deliver r i) e
-  delivery_moves r i None e at k = absurd (err_ok (let_through (delivery_test w.rows r None) (delivered_or_not f w r None) e k).1)
-  delivery_moves r i (Some m) e at k =
-      let a = let_through (delivery_test w.rows r (Some m)) (delivered_or_not f w r (Some m)) e k in
-      let b = neither (message_refusal r m) (up_test w.rows r) a.0 in
-      (up_below r b.1, (moves r).delivery w.post (page_of f w r) (row_of f w r) m e (in_post w.post i m at) a.1)
-
-  asked_moves : (k : Work) (e : Effect) → asked f w k ≡ Ok e → IsChain k e
-  asked_moves (Views r h) e k =
-      let a = let_through (up_test w.rows r) (viewed f w.need r (page_of f w r) (row_of f w r) h) e k in
-      (up_below r a.0, (moves r).view (seen_post w.post) (page_of f w r) (row_of f w r) h e a.1)
-  asked_moves (Deliver r i) e k = delivery_moves r i (message_at w.post i) e refl k
-  asked_moves (Loss r q) e k =
-      let a = let_through (loss_test w.rows r q) (lost_at f w.need r (page_of f w r) (row_of f w r) q) e k in
-      let b = neither (refused_if (leb 16 r) (floor_refusal NoSuchReplica r)) (option_or (refused_if (leb 16 q) (floor_refusal NoSuchReplica q)) (refused_if (not (row_at w.rows r).up) (floor_refusal WrongPower r))) a.0 in
-      (one_of_sixteen r (floor_refusal NoSuchReplica r) b.0, (moves r).loss (seen_post w.post) (page_of f w r) (row_of f w r) q e a.1)
-  asked_moves (Start r) e k =
-      let a = let_through (down_test w.rows r) (started_at r (page_of f w r) (row_of f w r)) e k in
-      let b = neither (refused_if (leb 16 r) (floor_refusal NoSuchReplica r)) (refused_if (row_at w.rows r).up (floor_refusal WrongPower r)) a.0 in
+  manager_moves : (k : Work) (e : Effect) → ByManager f w k e → IsChain k e
+  manager_moves (Views r h) e d = (moves r).view (seen_post w.post) (page_of f w r) (row_of f w r) h e d
+  manager_moves (Deliver r i) e (m, at, d) =
+      (moves r).delivery w.post (page_of f w r) (row_of f w r) m e (in_post w.post i m at) d
+  manager_moves (Loss r q) e d = (moves r).loss (seen_post w.post) (page_of f w r) (row_of f w r) q e d
+  manager_moves (Start r) e d =
       let p = page_of f w r in
       let row = row_of f w r in
-      let silent = start_ends_nothing r p row e a.1 in (
-        one_of_sixteen r (floor_refusal NoSuchReplica r) b.0,
-        subst (λ (s : Option Settlement). Chain f (seen_post w.post) r (node_of p row) (formed_by e.answer.posts) s (node_of e.page e.row))
-            (no_settlement None (head_of row.stage) e.answer.ended silent) ((moves r).start (seen_post w.post) p row e a.1),
-      )
-
-  placed_is : (k : Work) (a : Result Effect Fault) (e : Effect) → placed f w k a ≡ Ok e → a ≡ Ok e
-  placed_is k (Err fault) e i = absurd (err_ok i)
-  placed_is k (Ok x) e i =
-      (let_through (option_or (refused_if (full f w k) (floor_refusal PostFull (replica_of k))) (cond (eqb w.places 0) (Some (no_place (replica_of k))) None)) (Ok x) e i).1
+      let silent = start_ends_nothing r p row e d in
+      subst (λ (s : Option Settlement). Chain f (seen_post w.post) r (node_of p row) (formed_by e.answer.posts) s (node_of e.page e.row))
+      (no_settlement None (head_of row.stage) e.answer.ended silent) ((moves r).start (seen_post w.post) p row e d)
 
   -- what an accepted call does
-  pub ruled_moves : (k : Work) (e : Effect) → ruled f w k ≡ Ok e → IsChain k e
-  unfolding ruled
-  ruled_moves k e i = asked_moves k e (placed_is k (asked f w k) e i)
+  pub ruled_moves : (k : Work) (e : Effect) → ruled f w k ≡ Ok e → (replica_of k < 16) × IsChain k e
+  ruled_moves k e i = let a = ruled_accepted f w k e i in (a.0, manager_moves k e a.1)

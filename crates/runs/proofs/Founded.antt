@@ -1,6 +1,6 @@
 -- An accepted founding is one to run from. Assumes nothing.
 use Rattle.std.proofs.Common.{◌≡◌, ℕ, ◌^◌, ◌<◌, true, false, not, ◌||◌, eqb, ltb, List, length, None, ⊎_elim}
-use Rattle.std.proofs.lemmas.Bool.{both_ways, cases_Bool, cases_lt, or_parts}
+use Rattle.std.proofs.lemmas.Bool.{both_ways, cases_Bool, cases_lt, or_parts, ltb-false}
 use Rattle.quorum.proofs.Below.{any_some, any_none}
 use Rattle.quorum.proofs.Bits.{has_high}
 use Rattle.quorum.proofs.Sets.{no_members}
@@ -25,20 +25,25 @@ a_member s l e =
     absurd (both_ways (eqb s 0) e ((no_members s l).1 (λ k. ⊎_elim (λ h. any_none (has s) 16 a k h) (λ h. has_high s 16 k l h) (cases_lt k 16)))))
     (cases_Bool (any (has s) 16))
 
-not_empty : (first : View) (pages : List Page) (places : ℕ) → founding_refusal first pages places ≡ None → eqb first.set.0 0 ≡ false
-not_empty first pages places e =
+-- an accepted founding has somebody in its set, and a number that is at most the highest
+well_formed : (first : View) (pages : List Page) (places : ℕ) → founding_refusal first pages places ≡ None →
+    (eqb first.set.0 0 ≡ false) × (ltb 1000000000 first.number.0 ≡ false)
+well_formed first pages places e =
     let a = neither (refused_if (eqb first.set.0 0 || ltb 1000000000 first.number.0) (nameless BadFounding))
     (refused_if (ltb places 16 || any (λ r. not (is_fresh (page_at pages r))) 16) (nameless NotFresh)) e in
-    (or_parts (eqb first.set.0 0) (ltb 1000000000 first.number.0) (not_refused _ (nameless BadFounding) a.0)).0
+    or_parts (eqb first.set.0 0) (ltb 1000000000 first.number.0) (not_refused _ (nameless BadFounding) a.0)
 
 -- what was let through was not refused
 -- before it the store had these pages and places
 pub founded : (first : View) (need : Need) (pages : List Page) (places : ℕ) (w : World) → first.set.0 < 2 ^ 16 → founding_refusal first pages places ≡ None →
     Founding first need w.pages w.rows w.need w.post → length w.pages ≡ 16 → length w.rows ≡ 16 → Founded first w
-founded first need pages places w l accepted left all_pages all_rows = record {
-  somebody = a_member first.set.0 l (not_empty first pages places accepted);
-  wanted = need;
-  left = left;
-  all_pages = all_pages;
-  all_rows = all_rows;
-}
+founded first need pages places w l accepted left all_pages all_rows =
+    let formed = well_formed first pages places accepted in
+    record {
+      somebody = a_member first.set.0 l formed.0;
+      numbered = ltb-false 1000000000 first.number.0 formed.1;
+      wanted = need;
+      left = left;
+      all_pages = all_pages;
+      all_rows = all_rows;
+    }

@@ -1,4 +1,5 @@
 mod Answered
+mod Ruled
 mod Accepted
 mod Posts
 mod Seen

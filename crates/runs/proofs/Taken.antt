@@ -1,13 +1,11 @@
 -- A step of a floor is a call of the moves. Assumes nothing.
-use Rattle.std.proofs.Common.{◌≡◌, ℕ, ◌<◌, Bool, false, not, leb, ◌⊎◌, List, [], length, set, Some, None, Ok, Err, Option, Result, sym, refl, ap, ◌∙◌, subst, inr, ⊎_elim}
+use Rattle.std.proofs.Common.{◌≡◌, ℕ, ◌<◌, Bool, false, ◌⊎◌, List, [], length, set, Some, None, Ok, Err, Option, Result, sym, refl, ap, ◌∙◌, subst, inr, ⊎_elim}
 use Rattle.quorum.specs.Laws.{Grows, Meets}
 use Rattle.quorum.specs.declared.fault.Failure.{Failure}
 use Rattle.quorum.specs.declared.fault.Failure.TheVariants.{Refused, NoMemory}
-use Rattle.quorum.specs.declared.fault.Reason.TheVariants.{NoSuchReplica, WrongPower}
 use Rattle.bridge.proofs.Down.{down_is}
 use Rattle.bridge.specs.Refines.{MovesTo}
 use Rattle.bridge.specs.Seen.{node_of, seen_post, formed_by, settlement_of}
-use Rattle.manager.specs.Calls.{stopped_at}
 use Rattle.manager.specs.Effects.{Effect}
 use Rattle.manager.specs.declared.answer.Answer.{Answer}
 use Rattle.safety.specs.Moves.{Settlement, settlement}
@@ -25,17 +23,16 @@ use Rattle.stores.specs.declared.view.View.{View}
 use Rattle.runs.specs.Findings.{Asks, head_under, Accepted, FormsIn, SettlesIn}
 use Rattle.runs.specs.Founding.{row_at}
 use Rattle.runs.specs.Runs.{Taken}
-use Rattle.runs.specs.Steps.{Step, stopped, Halted}
-use Rattle.runs.specs.World.{World, replica_of, up_test, page_of, row_of, ruled, Changed, Same, Broken, listed, floor_refusal}
+use Rattle.runs.specs.Steps.{Step, Halted}
+use Rattle.runs.specs.World.{World, replica_of, ruled, Changed, Same, Broken, listed}
 use Rattle.runs.specs.declared.work.Call.{Call}
 use Rattle.runs.specs.declared.work.Call.TheVariants.{Whole, Cut, Stop}
 use Rattle.runs.specs.declared.work.Work.{Work}
 use Rattle.runs.proofs.Accepted.{ruled_moves}
-use Rattle.quorum.proofs.Refused.{ok_inj, err_ok, neither, one_of_sixteen}
-use Rattle.runs.proofs.Answered.{let_through}
+use Rattle.quorum.proofs.Refused.{ok_inj, err_ok}
+use Rattle.runs.proofs.Ruled.{stop_accepted}
 use Rattle.runs.proofs.Posts.{posted_by, report_posted}
 use Rattle.runs.proofs.Seen.{seen_at, world_of, Sixteen, both_here, both_others, row_here, row_others, seen_same, long_both, long_row}
-use Rattle.quorum.specs.Faults.{refused_if}
 use Rattle.rows.specs.Rows.{empty_row}
 
 abbrev taken : Call → Result Answer Failure → World → Taken
@@ -170,11 +167,6 @@ module _ (f : ℕ → ℕ → Bool) (w : World) where
     not_answered : (call : Call) (why : Failure) (v : World) → Accepted f w (taken call (Err why) v) → ⊥
     not_answered call why v a = err_ok a.answers
 
-    stop_below : (r : ℕ) (e : Effect) → stopped f w r ≡ Ok e → r < 16
-    stop_below r e i =
-        let a = let_through (up_test w.rows r) (stopped_at r (page_of f w r) (row_of f w r)) e i in
-        one_of_sixteen r (floor_refusal NoSuchReplica r) (neither (refused_if (leb 16 r) (floor_refusal NoSuchReplica r)) (refused_if (not (row_at w.rows r).up) (floor_refusal WrongPower r)) a.0).0
-
     step_taken : (grows : Grows f) (meets : Meets f) (call : Call) (answer : Result Answer Failure) (v : World) → Step f w call answer v → Called (taken call answer v)
     step_taken grows meets (Whole k) (Ok a) v (e, rules, is, c) = carried_out grows meets (taken (Whole k) (Ok a) v) k e a refl (λ work i. i) refl rules c
     step_taken grows meets (Whole k) (Err (Refused fault)) v (rules, s) = unchanged (taken (Whole k) (Err (Refused fault)) v) (not_answered (Whole k) (Refused fault) v) s
@@ -182,7 +174,7 @@ module _ (f : ℕ → ℕ → Bool) (w : World) where
     step_taken grows meets (Cut k n) (Ok a) v (e, rules, is, c) = cut_off grows meets (taken (Cut k n) (Ok a) v) k e a refl (λ work i. i) refl rules c
     step_taken grows meets (Cut k n) (Err (Refused fault)) v (rules, s) = unchanged (taken (Cut k n) (Err (Refused fault)) v) (not_answered (Cut k n) (Refused fault) v) s
     step_taken grows meets (Cut k n) (Err NoMemory) v s = absurd s
-    step_taken grows meets (Stop r) (Ok a) v (e, rules, is, c) = halted (taken (Stop r) (Ok a) v) r (λ b. b.asks) (stop_below r e rules) c
+    step_taken grows meets (Stop r) (Ok a) v (e, rules, is, c) = halted (taken (Stop r) (Ok a) v) r (λ b. b.asks) (stop_accepted f w r e rules).0 c
     step_taken grows meets (Stop r) (Err (Refused fault)) v (rules, s) = unchanged (taken (Stop r) (Err (Refused fault)) v) (not_answered (Stop r) (Refused fault) v) s
     step_taken grows meets (Stop r) (Err NoMemory) v s = absurd s
 

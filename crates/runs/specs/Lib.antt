@@ -3,3 +3,4 @@ pub mod World
 pub mod Steps
 pub mod Runs
 pub mod Findings
+pub mod Orderly

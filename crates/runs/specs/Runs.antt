@@ -1,5 +1,5 @@
 -- Runs of a floor: from a founding, call by call. Assumes nothing.
-use Rattle.std.specs.Prelude.{◌≡◌, ℕ, zero, suc, ◌<◌, Bool, true, List, [], ◌∷◌, length, Result}
+use Rattle.std.specs.Prelude.{◌≡◌, ℕ, zero, suc, ◌<◌, ◌≤◌, Bool, true, List, [], ◌∷◌, length, Result}
 use Rattle.quorum.specs.Members.{has}
 use Rattle.quorum.specs.declared.fault.Failure.{Failure}
 use Rattle.manager.specs.declared.answer.Answer.{Answer}
@@ -39,9 +39,11 @@ OfCall P w [] (suc i) = ⊥
 OfCall P w (t ∷ takens) (suc zero) = P w t
 OfCall P w (t ∷ takens) (suc (suc i)) = OfCall P t.world takens (suc i)
 
--- A floor right after an accepted founding with this first view: somebody is in its set, and there are sixteen pages and sixteen rows.
+-- A floor right after an accepted founding with this first view: somebody is in its set, its number is at most the highest, and there
+-- are sixteen pages and sixteen rows.
 pub record Founded (first : View) (w : World) : Type 0 where
   pub somebody : (q : ℕ) × (q < 16) × (has first.set.0 q ≡ true)
+  pub numbered : first.number.0 ≤ 1000000000
   pub wanted : Need
   pub left : Founding first wanted w.pages w.rows w.need w.post
   pub all_pages : length w.pages ≡ 16
