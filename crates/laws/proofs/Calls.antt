@@ -129,7 +129,7 @@ stopped_lawful r p w e d =
     (record { keeps = record { page = a.0.page; row = down_keeps r p; posts = tt }; advances = advances_itself p; follows = inl refl })
 
 -- ---- a replica starts
-started_so : (r : ℕ) (p : Page) (w : Row) (e : Effect) → started_at r p w ≡ Ok e → Offered r p w × (effect (in_mode (started p.mode) p) (empty_row true) Nothing ≡ e)
+pub started_so : (r : ℕ) (p : Page) (w : Row) (e : Effect) → started_at r p w ≡ Ok e → Offered r p w × (effect (in_mode (started p.mode) p) (empty_row true) Nothing ≡ e)
 unfolding started_at
 started_so r p w e d = let a = accepted (start_refusal r p w) (effect (in_mode (started p.mode) p) (empty_row true) Nothing) e d in (startable r p w a.0, a.1)
 

@@ -2,15 +2,14 @@
 use Rattle.std.proofs.Common.{◌≡◌, ℕ, zero, suc, ◌<◌, Bool, true, false, cond, ltb, List, [], ◌∷◌, length, get_or, Some, None, Ok, Option, sym, refl, ap, ◌∙◌, subst, inl, inr, arith}
 use Rattle.std.proofs.lemmas.Bool.{ltb-true}
 use Rattle.quorum.specs.Laws.{Grows, Meets}
-use Rattle.quorum.specs.declared.fault.Fault.{Fault}
 use Rattle.bridge.proofs.Calls.{refines}
 use Rattle.bridge.specs.Refines.{MovesTo, CallsMove}
 use Rattle.bridge.specs.Seen.{seen_post, settlement_of, formed_by, node_of}
-use Rattle.manager.specs.Calls.{head_of, start_refusal, started, started_at}
-use Rattle.manager.specs.Effects.{Effect, effect, in_mode}
+use Rattle.laws.proofs.Calls.{started_so}
+use Rattle.manager.specs.Calls.{head_of, started_at}
+use Rattle.manager.specs.Effects.{Effect}
 use Rattle.rounds.specs.declared.outcome.Outcome.{Outcome}
 use Rattle.rows.specs.declared.message.Message.{Message}
-use Rattle.rows.specs.declared.message.Posts.TheVariants.{Nothing}
 use Rattle.rows.specs.declared.row.Row.{Row}
 use Rattle.safety.proofs.Marks.{none_some, some_inj}
 use Rattle.safety.specs.Moves.{Chain, Settlement}
@@ -24,10 +23,7 @@ use Rattle.runs.specs.Founding.{row_at}
 use Rattle.runs.specs.World.{World, replica_of, message_at, page_of, row_of, ruled}
 use Rattle.runs.specs.declared.work.Work.{Work}
 use Rattle.runs.specs.declared.work.Work.TheVariants.{View as Views, Deliver, Loss, Start}
-use Rattle.quorum.proofs.Refused.{ok_inj, err_ok}
 use Rattle.runs.proofs.Ruled.{ByManager, ruled_accepted}
-use Rattle.quorum.specs.Faults.{given}
-use Rattle.rows.specs.Rows.{empty_row}
 
 -- ---- the message that is delivered stands in the post
 got_in : {A : Type 0} (xs : List A) (i : ℕ) (d : A) → i < length xs → In (get_or xs i d) xs
@@ -43,13 +39,8 @@ in_post : (post : List Message) (i : ℕ) (m : Message) → message_at post i �
 in_post post i m e = there post i _ m (ltb i (length post)) refl e
 
 -- ---- a start ends no round
-quiet_start : (o : Option Fault) (p : Page) (e : Effect) → given o (effect p (empty_row true) Nothing) ≡ Ok e → e.answer.ended ≡ None
-quiet_start None p e i = ap (λ (x : Effect). x.answer.ended) (sym (ok_inj i))
-quiet_start (Some fault) p e i = absurd (err_ok i)
-
 start_ends_nothing : (r : ℕ) (p : Page) (w : Row) (e : Effect) → started_at r p w ≡ Ok e → e.answer.ended ≡ None
-unfolding started_at
-start_ends_nothing r p w e i = quiet_start (start_refusal r p w) (in_mode (started p.mode) p) e i
+start_ends_nothing r p w e i = ap (λ (x : Effect). x.answer.ended) (sym (started_so r p w e i).1)
 
 -- where no round ended it does not matter which head a call is under
 no_settlement : (g h : Option Head) (o : Option (Outcome × Option View)) → o ≡ None → settlement_of g o ≡ settlement_of h o

@@ -1,6 +1,7 @@
 -- An accepted founding is one to run from. Assumes nothing.
-use Rattle.std.proofs.Common.{◌≡◌, ℕ, ◌^◌, ◌<◌, true, false, not, ◌||◌, eqb, ltb, List, length, None, ⊎_elim}
+use Rattle.std.proofs.Common.{◌≡◌, ℕ, ◌^◌, ◌<◌, ◌≤◌, true, false, not, ◌||◌, eqb, ltb, List, length, None, ⊎_elim, arith}
 use Rattle.std.proofs.lemmas.Bool.{both_ways, cases_Bool, cases_lt, or_parts, ltb-false}
+use Rattle.std.proofs.lemmas.Bool.Decides.{nat_tests}
 use Rattle.quorum.proofs.Below.{any_some, any_none}
 use Rattle.quorum.proofs.Bits.{has_high}
 use Rattle.quorum.proofs.Sets.{no_members}
@@ -9,9 +10,10 @@ use Rattle.quorum.specs.Members.{has}
 use Rattle.quorum.specs.declared.fault.Reason.TheVariants.{BadFounding, NotFresh}
 use Rattle.manager.specs.declared.need.Need.{Need}
 use Rattle.stores.specs.Kept.{page_at}
+use Rattle.stores.specs.Rules.{keeps_rules}
 use Rattle.stores.specs.declared.page.Page.{Page}
 use Rattle.stores.specs.declared.view.View.{View}
-use Rattle.runs.specs.Founding.{is_fresh, founding_refusal, Founding, nameless}
+use Rattle.runs.specs.Founding.{is_fresh, founding_page, founding_refusal, Founding, nameless}
 use Rattle.runs.specs.Runs.{Founded}
 use Rattle.runs.specs.World.{World}
 use Rattle.quorum.specs.Faults.{refused_if}
@@ -32,6 +34,12 @@ well_formed first pages places e =
     let a = neither (refused_if (eqb first.set.0 0 || ltb 1000000000 first.number.0) (nameless BadFounding))
     (refused_if (ltb places 16 || any (λ r. not (is_fresh (page_at pages r))) 16) (nameless NotFresh)) e in
     or_parts (eqb first.set.0 0) (ltb 1000000000 first.number.0) (not_refused _ (nameless BadFounding) a.0)
+
+-- a member's page keeps the rules
+pub founding_keeps : (v : View) (r : ℕ) → has v.set.0 r ≡ true → v.number.0 ≤ 1000000000 →
+    keeps_rules r (founding_page v) ≡ true
+unfolding keeps_rules
+founding_keeps v r h l = grind (arith, nat_tests)
 
 -- what was let through was not refused
 -- before it the store had these pages and places

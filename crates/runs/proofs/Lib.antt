@@ -7,5 +7,6 @@ mod Taken
 mod Started
 pub mod Founded
 pub mod Runs
+pub mod Orderly
 mod Carried
 pub mod Findings

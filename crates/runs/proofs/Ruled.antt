@@ -52,7 +52,7 @@ module _ (f : ℕ → ℕ → Bool) (w : World) where
       let a = let_through (loss_test w.rows r q) (lost_at f w.need r (page_of f w r) (row_of f w r) q) e k in
       let above = refused_if (leb 16 r) (floor_refusal NoSuchReplica r) in
       let others = option_or (refused_if (leb 16 q) (floor_refusal NoSuchReplica q))
-          (refused_if (not (row_at w.rows r).up) (floor_refusal WrongPower r)) in
+      (refused_if (not (row_at w.rows r).up) (floor_refusal WrongPower r)) in
       (one_of_sixteen r (floor_refusal NoSuchReplica r) (neither above others a.0).0, a.1)
   asked_accepted (Start r) e k =
       let a = let_through (down_test w.rows r) (started_at r (page_of f w r) (row_of f w r)) e k in
@@ -60,7 +60,8 @@ module _ (f : ℕ → ℕ → Bool) (w : World) where
       let up = refused_if (row_at w.rows r).up (floor_refusal WrongPower r) in
       (one_of_sixteen r (floor_refusal NoSuchReplica r) (neither above up a.0).0, a.1)
 
-  placed_is : (k : Work) (a : Result Effect Fault) (e : Effect) → placed f w k a ≡ Ok e → (a ≡ Ok e) × (full f w k ≡ false)
+  placed_is : (k : Work) (a : Result Effect Fault) (e : Effect) → placed f w k a ≡ Ok e →
+      (a ≡ Ok e) × (full f w k ≡ false)
   placed_is k (Err fault) e i = absurd (err_ok i)
   placed_is k (Ok x) e i =
       let no_room = refused_if (full f w k) (floor_refusal PostFull (replica_of k)) in
@@ -78,7 +79,8 @@ module _ (f : ℕ → ℕ → Bool) (w : World) where
   ruled_room k e i = (placed_is k (asked f w k) e i).1
 
   -- an accepted stop
-  pub stop_accepted : (r : ℕ) (e : Effect) → stopped f w r ≡ Ok e → (r < 16) × (stopped_at r (page_of f w r) (row_of f w r) ≡ Ok e)
+  pub stop_accepted : (r : ℕ) (e : Effect) → stopped f w r ≡ Ok e →
+      (r < 16) × (stopped_at r (page_of f w r) (row_of f w r) ≡ Ok e)
   stop_accepted r e i =
       let a = let_through (up_test w.rows r) (stopped_at r (page_of f w r) (row_of f w r)) e i in
       (up_below r a.0, a.1)

@@ -1,7 +1,8 @@
-// Calls of a floor, runs of them, and what is found of every run. There is nothing to run here; each function carries a theorem.
+// Calls of a floor, runs of them, and what holds of every run. There is nothing to run here; each function carries a theorem.
 #![tactic(auto)]
 
 ghost use Rattle.runs.specs.Findings.{RunsSafe, SafeRuns};
+ghost use Rattle.runs.specs.Orderly.{RunsOrderly};
 
 mod work;
 
@@ -16,4 +17,10 @@ pub fn runs_stand()
 // The three findings hold of every run of a floor by this rule, from its laws.
 pub fn runs_stand_for<R: QuorumRule>(rule: &R)
     ensures { SafeRuns (R.carries rule.now) }
+{}
+
+// Of every run of a floor, from every founding, by every relation: every page, row and message keeps its rules, no row
+// stands to be recorded, losses, starts, stops and cuts post nothing, and the post never exceeds 65,536 messages.
+pub fn runs_are_orderly()
+    ensures { RunsOrderly }
 {}
