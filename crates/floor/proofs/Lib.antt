@@ -1,3 +1,4 @@
 pub mod Pages
 pub mod Ruled
 pub mod Making
+pub mod Memory

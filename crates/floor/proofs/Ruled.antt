@@ -1,5 +1,5 @@
 -- From the floor's and the manager's answers to what a call does. Assumes nothing.
-use Rattle.std.proofs.Common.{◌≡◌, ℕ, ◌<◌, Bool, false, ◌&&◌, ◌==◌, nat_le, length, IfOk, Some, None, Ok, Err, Option, Result, sym, refl, ap, ap₂, ◌∙◌, ⊎_elim, OnOk, OnErr, arith, set}
+use Rattle.std.proofs.Common.{◌≡◌, ℕ, ◌+◌, ◌<◌, Bool, false, ◌&&◌, ◌==◌, nat_le, length, IfOk, Some, None, Ok, Err, Option, Result, sym, refl, ap, ap₂, ◌∙◌, ⊎_elim, subst, OnOk, OnErr, arith, set}
 use Rattle.std.proofs.lemmas.Bool.{eq-eqb, ne_eqb}
 use Rattle.std.proofs.lemmas.List.{set-set, set-get_or}
 use Rattle.std.specs.Option.{option_or}
@@ -18,12 +18,13 @@ use Rattle.rows.specs.declared.message.Message.{Message}
 use Rattle.rows.specs.declared.row.Row.{Row}
 use Rattle.runs.specs.Founding.{row_at}
 use Rattle.runs.specs.Steps.{Halted, quiet, stopped}
-use Rattle.runs.specs.World.{World, replica_of, floor_refusal, unless, message_at, up_test, down_test, loss_test, delivery_test, page_of, row_of, delivered_or_not, asked, full, placed, ruled, Posted, unit_of, Same, Broken, Did}
+use Rattle.runs.specs.World.{World, replica_of, floor_refusal, unless, message_at, up_test, down_test, loss_test, delivery_test, page_of, row_of, delivered_or_not, asked, full, placed, ruled, Posted, listed, unit_of, Same, Broken, Did}
 use Rattle.runs.specs.declared.work.Work.{Work}
 use Rattle.runs.specs.declared.work.Work.TheVariants as works
 use Rattle.stores.specs.Kept.{no_place}
 use Rattle.stores.specs.declared.page.Page.{Page}
 use Rattle.floor.specs.Cuts.{TornAt, LeftAt}
+use Rattle.floor.specs.Memory.{LacksRoomFor}
 use Rattle.floor.specs.Parts.{crowded, Ready, Stored, PutBack, Tested}
 use Rattle.floor.specs.Tasks.{managed, lent, delivery_task, tasked, wants_room}
 use Rattle.floor.specs.declared.accepted.Accepted.{Accepted}
@@ -192,8 +193,8 @@ module _ (f : ℕ → ℕ → Bool) (w u : World) (k : Work) (e : Effect) (a : A
   }
 
   pub finished_did : (v : World) (r : Result Answer Failure) → Tested u a (unit_of r) → IfOk r (λ b. b ≡ a.answer) →
-      OnOk r (Stored u a v) → OnErr r (PutBack u a v) → Did f w k r v
-  finished_did v (Ok b) t answer s _ = (
+      OnOk r (Stored u a v) → OnErr r (PutBack u a v) → (r ≡ Err NoMemory → 0 < length (listed a.answer.posts)) → Did f w k r v
+  finished_did v (Ok b) t answer s _ _ = (
     e,
     allows t,
     answer ∙ ready.answer_is,
@@ -205,8 +206,16 @@ module _ (f : ℕ → ℕ → Bool) (w u : World) (k : Work) (e : Effect) (a : A
       need_is = s.need_is ∙ ready.need_is;
     },
   )
-  finished_did v (Err (Refused x)) t _ _ b = (refuses x t, same v b)
-  finished_did v (Err NoMemory) t _ _ b = same v b
+  finished_did v (Err (Refused x)) t _ _ b _ = (refuses x t, same v b)
+  finished_did v (Err NoMemory) t _ _ b some =
+      (e, allows t, subst (λ (x : Answer). 0 < length (listed x.posts)) ready.answer_is (some refl), same v b)
+
+  -- where no memory was found, the capacity lacked room for what the call posts
+  pub finished_lacks : (capacity : ℕ) (r : Result Answer Failure) → Tested u a (unit_of r) → r ≡ Err NoMemory →
+      capacity < length u.post + length (listed a.answer.posts) → LacksRoomFor f w k capacity
+  finished_lacks capacity r t none lacks =
+      let tested : Tested u a (Err NoMemory) = subst (λ (x : Result Answer Failure). Tested u a (unit_of x)) none t in
+      (e, allows tested, rw (ready.post_is, ready.answer_is) at lacks)
 
   pub break_refused : (v : World) (x : Fault) → Tested u a (Err (Refused x)) → PutBack u a v →
       (ruled f w k ≡ Err x) × Same w v

@@ -1,5 +1,5 @@
--- What a cut leaves of its page, by what the store says of its cuts: `leaves n old new p` says that a write of the page new over the
--- page old, broken off after n byte-writes, may leave p. What held pages say of theirs fixes p by n. Assumes nothing.
+-- What a cut leaves of its page, by what the store says of its cuts: `leaves s n old new p` says that of the store s a write of the
+-- page new over the page old, broken off after n byte-writes, may leave p. What held pages say of theirs fixes p by n. Assumes nothing.
 use Rattle.std.specs.Prelude.{◌≡◌, ℕ, Bool, List, [], ◌∷◌, Ok, Result, OnOk}
 use Rattle.quorum.specs.declared.fault.Failure.{Failure}
 use Rattle.manager.specs.Effects.{Effect}
@@ -13,6 +13,7 @@ use Rattle.stores.specs.Kept.{page_at}
 use Rattle.stores.specs.declared.page.Page.{Page}
 use Rattle.floor.specs.declared.accepted.Accepted.{Accepted}
 
+-- of one store
 module _ (leaves : ℕ → Page → Page → Page → Type 0) where
   -- an accepted call's write, broken off after n byte-writes
   abbrev pub TornAt : ℕ → World → Accepted → World → Type 0
@@ -29,7 +30,12 @@ module _ (leaves : ℕ → Page → Page → Page → Type 0) where
     CutLeaves w (Cut k n) a v = OnOk a (LeftAt n w k v)
     CutLeaves w (Stop r) a v = Unit {0}
 
-    -- the same of calls one after another
-    abbrev pub CutsLeave : World → List Taken → Type 0
-    CutsLeave w [] = Unit {0}
-    CutsLeave w (t ∷ takens) = CutLeaves w t.call t.answer t.world × CutsLeave t.world takens
+-- of stores one after another
+module _ {S : Type 0} (pages : S → List Page) (places : S → ℕ) (leaves : S → ℕ → Page → Page → Page → Type 0) (f : ℕ → ℕ → Bool) where
+  -- Calls led from the store s in the world w to the store t, by a store after each call: one with the pages and the places of the
+  -- world that the call led to. What each cut left is what the store right before it says.
+  abbrev pub CutsLeave : S → World → List Taken → S → Type 0
+  CutsLeave s w [] t = t ≡ s
+  CutsLeave s w (x ∷ takens) t =
+      (m : S) × (pages m ≡ x.world.pages) × (places m ≡ x.world.places) × CutLeaves (leaves s) f w x.call x.answer x.world
+      × CutsLeave m x.world takens t

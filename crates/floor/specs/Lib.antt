@@ -2,4 +2,5 @@ pub mod Worlds
 pub mod Tasks
 pub mod Parts
 pub mod Cuts
+pub mod Memory
 pub mod Ran

@@ -44,13 +44,14 @@ impl Accepted {
     }
 }
 
-impl<R: QuorumRule + Copy, S: Breakable + Drop> Floor<R, S> {
+impl<R: QuorumRule + Copy, S: Breakable> Floor<R, S> {
     // The manager's work, by which the row is changed already; refused, nothing is.
     pub(crate) fn accept(&mut self, post: &[Message], work: Work) -> Result<Accepted, Fault>
         ensures asked { Asked (R.QuorumRule.carries self.old.rule)
             (world S.Store.pages S.Store.places self.old post.now) work result
             (world S.Store.pages S.Store.places self.new post.now) }
         ensures rule { self.new.rule ≡ self.old.rule }
+        ensures store { self.new.store ≡ self.old.store }
     {
         let (replica, task) = self.task(post, work)?;
         let before = *self.table.row(replica);

@@ -27,7 +27,7 @@ fn find(replica: u8) -> Result<Replica, Fault>
     Replica::new(replica).ok_or(Reason::NoSuchReplica.at(replica, Layer::Floor))
 }
 
-impl<R: QuorumRule + Copy, S: Breakable + Drop> Floor<R, S> {
+impl<R: QuorumRule + Copy, S: Breakable> Floor<R, S> {
     // There is such a replica, and it is up.
     pub(crate) fn check_up(&self, replica: u8) -> Result<Replica, Fault>
         ensures { result ≡ given (up_test self.now.table.rows replica) replica }

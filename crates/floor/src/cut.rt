@@ -16,7 +16,7 @@ use rows::{Message, Row};
 use runs::Work;
 use stores::{Breakable, Store};
 
-impl<R: QuorumRule + Copy, S: Breakable + Drop> Floor<R, S> {
+impl<R: QuorumRule + Copy, S: Breakable> Floor<R, S> {
     // The page's write is broken off; refused as the write would be.
     fn cut_page(&mut self, post: &[Message], accepted: &Accepted, n: u64) -> Result<(), Fault>
         ensures test { Tested
@@ -24,7 +24,7 @@ impl<R: QuorumRule + Copy, S: Breakable + Drop> Floor<R, S> {
         ensures torn { OnOk result (Torn
             (world S.Store.pages S.Store.places self.old post.now) accepted.now
             (world S.Store.pages S.Store.places self.new post.now)) }
-        ensures left { OnOk result (TornAt S.Breakable.leaves n
+        ensures left { OnOk result (TornAt (S.Breakable.leaves self.old.store) n
             (world S.Store.pages S.Store.places self.old post.now) accepted.now
             (world S.Store.pages S.Store.places self.new post.now)) }
         ensures refused { OnErr result (Same
@@ -44,7 +44,7 @@ impl<R: QuorumRule + Copy, S: Breakable + Drop> Floor<R, S> {
             (world S.Store.pages S.Store.places self.old post.now)
             (world S.Store.pages S.Store.places self.new post.now)
             accepted.now.kept.replica accepted.now.kept.page) }
-        ensures left { OnOk result (TornAt S.Breakable.leaves n
+        ensures left { OnOk result (TornAt (S.Breakable.leaves self.old.store) n
             (world S.Store.pages S.Store.places self.old post.now) accepted.now
             (world S.Store.pages S.Store.places self.new post.now)) }
         ensures refused { OnErr result (PutBack
@@ -74,7 +74,7 @@ impl<R: QuorumRule + Copy, S: Breakable + Drop> Floor<R, S> {
         ensures cut { CutOff (R.QuorumRule.carries self.old.rule)
             (world S.Store.pages S.Store.places self.old post.now) work result
             (world S.Store.pages S.Store.places self.new post.now) }
-        ensures left { OnOk result (LeftAt S.Breakable.leaves (R.QuorumRule.carries self.old.rule) n
+        ensures left { OnOk result (LeftAt (S.Breakable.leaves self.old.store) (R.QuorumRule.carries self.old.rule) n
             (world S.Store.pages S.Store.places self.old post.now) work
             (world S.Store.pages S.Store.places self.new post.now)) }
         ensures rule { self.new.rule ≡ self.old.rule }

@@ -1,6 +1,8 @@
 // A call that is not cut off: its page's write and its messages.
-ghost use Rattle.std.specs.Prelude.{◌≡◌, ◌+◌, ◌≤◌, ◌++◌, vec_len, vec_capacity, IfOk, OnOk, OnErr, slice_set};
+ghost use Rattle.std.specs.Prelude.{◌≡◌, ◌+◌, ◌<◌, ◌≤◌, ◌++◌, length, vec_len, vec_capacity, Err, IfOk, OnOk, OnErr, slice_set};
+ghost use Rattle.quorum.specs.declared.fault.Failure.TheVariants.{NoMemory};
 ghost use Rattle.runs.specs.World.{Did, Same, listed, unit_of};
+ghost use Rattle.floor.specs.Memory.{LacksRoomFor};
 ghost use Rattle.floor.specs.Parts.{PutBack, Stored, Tested};
 ghost use Rattle.floor.specs.Worlds.{world};
 
@@ -10,12 +12,40 @@ use manager::Answer;
 use quorum::{Failure, QuorumRule, Replica};
 use rows::{Message, Posts, Row};
 use runs::Work;
+use std::alloc::AllocError;
 use stores::{Breakable, Store};
+
+// How many messages a call posts.
+fn outgoing_count(posts: Posts) -> usize
+    ensures { result ≡ length (listed posts) }
+{
+    match posts {
+        Posts::Nothing => 0,
+        Posts::One(_) => 1,
+        Posts::Two(_, _) => 2,
+    }
+}
+
+// Where the store has a place, room in the post for so many messages. Where it has none the write will be refused, and no room
+// is made, so that want of memory is told last.
+fn make_room<S: Store>(store: &S, post: &mut Vec<Message>, count: usize) -> Result<(), AllocError>
+    ensures room { OnOk result (0 < S.places store.now → vec_len post.new + count ≤ vec_capacity post.new) }
+    ensures lacking { OnErr result ((0 < S.places store.now) × (vec_capacity post.old < vec_len post.old + count)) }
+    ensures items { post.new.items ≡ post.old.items }
+    ensures len { vec_len post.new ≡ vec_len post.old }
+    ensures capacity { vec_capacity post.old ≤ vec_capacity post.new }
+{
+    if store.places() > 0 {
+        post.reserve(count)?;
+    }
+    Ok(())
+}
 
 // Appends the messages, for which there is room.
 fn append(post: &mut Vec<Message>, posts: Posts)
-    requires { vec_len post.old + 2 ≤ vec_capacity post.old }
-    ensures { post.new.items ≡ post.old.items ++ listed posts }
+    requires { vec_len post.old + length (listed posts) ≤ vec_capacity post.old }
+    ensures items { post.new.items ≡ post.old.items ++ listed posts }
+    ensures capacity { vec_capacity post.new ≡ vec_capacity post.old }
 {
     match posts {
         Posts::Nothing => {}
@@ -27,7 +57,7 @@ fn append(post: &mut Vec<Message>, posts: Posts)
     }
 }
 
-impl<R: QuorumRule + Copy, S: Breakable + Drop> Floor<R, S> {
+impl<R: QuorumRule + Copy, S: Breakable> Floor<R, S> {
     // The page is written, and the messages are posted; refused, nothing changes.
     fn write_and_post(
         &mut self,
@@ -35,6 +65,8 @@ impl<R: QuorumRule + Copy, S: Breakable + Drop> Floor<R, S> {
         accepted: &Accepted,
     ) -> Result<(), Failure>
         ensures test { Tested (world S.Store.pages S.Store.places self.old post.old.items) accepted.now result }
+        ensures memory { result ≡ Err NoMemory
+            → vec_capacity post.old < vec_len post.old + length (listed accepted.now.answer.posts) }
         ensures stored { OnOk result (Stored
             (world S.Store.pages S.Store.places self.old post.old.items) accepted.now
             (world S.Store.pages S.Store.places self.new post.new.items)) }
@@ -42,11 +74,13 @@ impl<R: QuorumRule + Copy, S: Breakable + Drop> Floor<R, S> {
             (world S.Store.pages S.Store.places self.old post.old.items)
             (world S.Store.pages S.Store.places self.new post.new.items)) }
         ensures rule { self.new.rule ≡ self.old.rule }
+        ensures capacity { vec_capacity post.old ≤ vec_capacity post.new }
     {
         accepted.check_room(post)?;
-        post.reserve(2)?;
+        let posts = accepted.answer.posts;
+        make_room(&self.store, post, outgoing_count(posts))?;
         self.store.write(accepted.kept)?;
-        append(post, accepted.answer.posts);
+        append(post, posts);
         Ok(())
     }
 
@@ -64,6 +98,8 @@ impl<R: QuorumRule + Copy, S: Breakable + Drop> Floor<R, S> {
     fn finish(&mut self, post: &mut Vec<Message>, accepted: &Accepted) -> Result<Answer, Failure>
         ensures test { Tested
             (world S.Store.pages S.Store.places self.old post.old.items) accepted.now (unit_of result) }
+        ensures memory { result ≡ Err NoMemory
+            → vec_capacity post.old < vec_len post.old + length (listed accepted.now.answer.posts) }
         ensures answer { IfOk result (λ a. a ≡ accepted.now.answer) }
         ensures stored { OnOk result (Stored
             (world S.Store.pages S.Store.places self.old post.old.items) accepted.now
@@ -72,6 +108,7 @@ impl<R: QuorumRule + Copy, S: Breakable + Drop> Floor<R, S> {
             (world S.Store.pages S.Store.places self.old post.old.items) accepted.now
             (world S.Store.pages S.Store.places self.new post.new.items)) }
         ensures rule { self.new.rule ≡ self.old.rule }
+        ensures capacity { vec_capacity post.old ≤ vec_capacity post.new }
     {
         match self.write_and_post(post, accepted) {
             Ok(()) => Ok(accepted.answer),
@@ -91,7 +128,10 @@ impl<R: QuorumRule + Copy, S: Breakable + Drop> Floor<R, S> {
         ensures did { Did (R.QuorumRule.carries self.old.rule)
             (world S.Store.pages S.Store.places self.old post.old.items) work result
             (world S.Store.pages S.Store.places self.new post.new.items) }
+        ensures memory { result ≡ Err NoMemory → LacksRoomFor (R.QuorumRule.carries self.old.rule)
+            (world S.Store.pages S.Store.places self.old post.old.items) work (vec_capacity post.old) }
         ensures rule { self.new.rule ≡ self.old.rule }
+        ensures capacity { vec_capacity post.old ≤ vec_capacity post.new }
     {
         let accepted = self.accept(post, work)?;
         self.finish(post, &accepted)

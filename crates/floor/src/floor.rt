@@ -1,9 +1,11 @@
 // The floor: a rule, a store, sixteen rows and the need.
-ghost use Rattle.std.specs.Prelude.{◌≡◌, ◌==◌, false, replicate, if◌then◌else◌, is_err, IfOk, MatchResult, Some, None, OnErr, OnOk, nat_lt, slice_index};
+ghost use Rattle.std.specs.Prelude.{◌≡◌, ◌==◌, false, replicate, if◌then◌else◌, is_err, IfOk, MatchResult, Some, None, OnErr, OnOk, nat_lt, slice_index, vec_capacity};
 ghost use Rattle.runs.specs.Runs.{Founded};
 ghost use Rattle.stores.specs.Kept.{page_at};
+ghost use Rattle.stores.specs.Writings.{SpentBy};
 ghost use Rattle.runs.specs.Founding.{row_at, founding_refusal, Founding};
 ghost use Rattle.quorum.specs.Below.{any};
+ghost use Rattle.quorum.specs.Members.{size};
 ghost use Rattle.quorum.specs.Faults.{allowed, refused_by};
 ghost use Rattle.quorum.specs.declared.fault.Layer.TheVariants.{Rule};
 ghost use Rattle.quorum.specs.declared.fault.Reason.TheVariants.{ZeroWeight};
@@ -40,7 +42,7 @@ impl<S: Breakable + Drop> Floor<WeightRule, S> {
     }
 }
 
-impl<R: QuorumRule + Copy, S: Breakable + Drop> Floor<R, S> {
+impl<R: QuorumRule + Copy, S: Breakable> Floor<R, S> {
     // A new floor: all rows down and empty, need one.
     pub fn new(rule: R, store: S) -> Floor<R, S>
         ensures rule { result.rule ≡ rule }
@@ -79,7 +81,8 @@ impl<R: QuorumRule + Copy, S: Breakable + Drop> Floor<R, S> {
         self.need
     }
 
-    // Founding: members of the set hold the first view, all sixteen replicas are up and idle, the post is empty.
+    // Founding: members of the set hold the first view, all sixteen replicas are up and idle, the post is empty. It uses at most one
+    // place for each member.
     pub fn found(&mut self, post: &mut Vec<Message>, view: View, need: Need) -> Result<(), Fault>
         ensures answer { result ≡ allowed
             (founding_refusal view (S.Store.pages self.old.store) (S.Store.places self.old.store)) }
@@ -88,6 +91,9 @@ impl<R: QuorumRule + Copy, S: Breakable + Drop> Floor<R, S> {
         ensures begins { OnOk result (Founded view
             (world S.Store.pages S.Store.places self.new post.new.items)) }
         ensures rule { self.new.rule ≡ self.old.rule }
+        ensures places { OnOk result (SpentBy (size view.set.0)
+            (S.Store.places self.old.store) (S.Store.places self.new.store)) }
+        ensures capacity { vec_capacity post.new ≡ vec_capacity post.old }
         ensures kept { OnErr result ((self.new ≡ self.old) × (post.new ≡ post.old)) }
     {
         check_founding(&self.store, view)?;

@@ -1,7 +1,9 @@
 // Founding: the first view, on a store of fresh pages.
 ghost use Rattle.std.specs.Prelude.{◌≡◌, ◌≤◌, not, length, Ok};
 ghost use Rattle.quorum.specs.Below.{any};
+ghost use Rattle.quorum.specs.Members.{size};
 ghost use Rattle.stores.specs.Kept.{page_at};
+ghost use Rattle.stores.specs.Writings.{SpentBy};
 ghost use Rattle.runs.specs.Founding.{is_fresh, founding_refusal, founding_page, founding_row, FoundedPages, FoundedRows};
 ghost use Rattle.quorum.specs.Faults.{allowed};
 
@@ -76,6 +78,7 @@ pub(crate) fn write_founding<S: Store>(store: &mut S, view: View) -> Result<(), 
     requires places { 16 ≤ S.places store.old }
     ensures all { result ≡ Ok tt }
     ensures pages { FoundedPages view (S.pages store.old) 16 (S.pages store.new) }
+    ensures spent { SpentBy (size view.set.0) (S.places store.old) (S.places store.new) }
 {
     for replica in Replica::all() {
         if view.set.contains(replica.number()) {

@@ -33,7 +33,7 @@ fn manage<R: QuorumRule>(
     }
 }
 
-impl<R: QuorumRule + Copy, S: Breakable + Drop> Floor<R, S> {
+impl<R: QuorumRule + Copy, S: Breakable> Floor<R, S> {
     // The rule is copied out, and the table lends one row to the manager.
     pub(crate) fn lend(
         &mut self,

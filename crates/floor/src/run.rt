@@ -1,5 +1,5 @@
 // Lists of calls: the findings of a whole evening.
-ghost use Rattle.std.specs.Prelude.{◌≡◌, OnErr, OnOk};
+ghost use Rattle.std.specs.Prelude.{◌≡◌, ◌≤◌, OnErr, OnOk, vec_capacity};
 ghost use Rattle.runs.specs.Founding.{founding_refusal};
 ghost use Rattle.floor.specs.Ran.{Ran, Found, Evening};
 ghost use Rattle.floor.specs.Worlds.{world};
@@ -12,12 +12,14 @@ use rows::Message;
 use runs::Call;
 use stores::{Breakable, View};
 
-impl<R: QuorumRule + Copy, S: Breakable + Drop> Floor<R, S> {
+impl<R: QuorumRule + Copy, S: Breakable> Floor<R, S> {
     fn make_all(&mut self, post: &mut Vec<Message>, calls: &[Call])
-        ensures ran { Ran S.Breakable.leaves (R.QuorumRule.carries self.old.rule)
-            (world S.Store.pages S.Store.places self.old post.old.items)
-            (world S.Store.pages S.Store.places self.new post.new.items) calls.now }
+        ensures ran { Ran S.Store.pages S.Store.places S.Breakable.leaves (R.QuorumRule.carries self.old.rule)
+            (vec_capacity post.old)
+            self.old.store (world S.Store.pages S.Store.places self.old post.old.items)
+            self.new.store (world S.Store.pages S.Store.places self.new post.new.items) calls.now }
         ensures rule { self.new.rule ≡ self.old.rule }
+        ensures capacity { vec_capacity post.old ≤ vec_capacity post.new }
     {
         for call in calls {
             let _ = self.step(post, *call);
@@ -25,17 +27,19 @@ impl<R: QuorumRule + Copy, S: Breakable + Drop> Floor<R, S> {
     }
 
     // Makes the calls, one after another, whatever each answers. Whatever run led here from an accepted founding, that
-    // run and these calls have the three findings.
+    // run and these calls have the three findings, and with room for 65,536 messages no call finds no memory.
     pub fn run(&mut self, post: &mut Vec<Message>, calls: &[Call])
-        ensures found { Found S.Breakable.leaves (R.QuorumRule.carries self.old.rule)
-            (world S.Store.pages S.Store.places self.old post.old.items)
-            (world S.Store.pages S.Store.places self.new post.new.items) calls.now }
+        ensures found { Found S.Store.pages S.Store.places S.Breakable.leaves (R.QuorumRule.carries self.old.rule)
+            (vec_capacity post.old)
+            self.old.store (world S.Store.pages S.Store.places self.old post.old.items)
+            self.new.store (world S.Store.pages S.Store.places self.new post.new.items) calls.now }
         ensures rule { self.new.rule ≡ self.old.rule }
+        ensures capacity { vec_capacity post.old ≤ vec_capacity post.new }
     {
         self.make_all(post, calls);
     }
 
-    // Founds, and makes the calls: the three findings of that evening.
+    // Founds, and makes the calls: the three findings of that evening. With room for 65,536 messages no call finds no memory.
     pub fn evening(
         &mut self,
         post: &mut Vec<Message>,
@@ -45,8 +49,10 @@ impl<R: QuorumRule + Copy, S: Breakable + Drop> Floor<R, S> {
     ) -> Result<(), Fault>
         ensures answer { result ≡ allowed
             (founding_refusal first (S.Store.pages self.old.store) (S.Store.places self.old.store)) }
-        ensures evening { OnOk result (Evening S.Breakable.leaves (R.QuorumRule.carries self.old.rule) first need
-            (world S.Store.pages S.Store.places self.new post.new.items) calls.now) }
+        ensures evening { OnOk result (Evening S.Store.pages S.Store.places S.Breakable.leaves
+            (R.QuorumRule.carries self.old.rule) (vec_capacity post.old) first need
+            self.old.store self.new.store (world S.Store.pages S.Store.places self.new post.new.items) calls.now) }
+        ensures capacity { vec_capacity post.old ≤ vec_capacity post.new }
         ensures kept { OnErr result ((self.new ≡ self.old) × (post.new ≡ post.old)) }
     {
         self.found(post, first, need)?;

@@ -1,5 +1,5 @@
 mod Answered
-mod Ruled
+pub mod Ruled
 mod Accepted
 mod Posts
 mod Seen

@@ -170,7 +170,7 @@ module _ (f : ℕ → ℕ → Bool) (w : World) where
     step_taken : (grows : Grows f) (meets : Meets f) (call : Call) (answer : Result Answer Failure) (v : World) → Step f w call answer v → Called (taken call answer v)
     step_taken grows meets (Whole k) (Ok a) v (e, rules, is, c) = carried_out grows meets (taken (Whole k) (Ok a) v) k e a refl (λ work i. i) refl rules c
     step_taken grows meets (Whole k) (Err (Refused fault)) v (rules, s) = unchanged (taken (Whole k) (Err (Refused fault)) v) (not_answered (Whole k) (Refused fault) v) s
-    step_taken grows meets (Whole k) (Err NoMemory) v s = unchanged (taken (Whole k) (Err NoMemory) v) (not_answered (Whole k) NoMemory v) s
+    step_taken grows meets (Whole k) (Err NoMemory) v (e, rules, some, s) = unchanged (taken (Whole k) (Err NoMemory) v) (not_answered (Whole k) NoMemory v) s
     step_taken grows meets (Cut k n) (Ok a) v (e, rules, is, c) = cut_off grows meets (taken (Cut k n) (Ok a) v) k e a refl (λ work i. i) refl rules c
     step_taken grows meets (Cut k n) (Err (Refused fault)) v (rules, s) = unchanged (taken (Cut k n) (Err (Refused fault)) v) (not_answered (Cut k n) (Refused fault) v) s
     step_taken grows meets (Cut k n) (Err NoMemory) v s = absurd s

@@ -116,11 +116,15 @@ listed Nothing = []
 listed (One m) = m ∷ []
 listed (Two m n) = m ∷ n ∷ []
 
--- of a post that is full or not, and then of the store's places: done, refused by the first that lacks, or no memory though the post has room
+-- something is posted
+abbrev pub PostsSome : Effect → Type 0
+PostsSome e = 0 < length (listed e.answer.posts)
+
+-- of a post that is full or not, and then of the store's places: done, refused by the first that lacks, or no memory where neither lacks
 abbrev pub Posted : Bool → ℕ → ℕ → Result Unit Failure → Type 0
 Posted full places r (Ok _) = (full ≡ false) × (0 < places)
 Posted full places r (Err (Refused fault)) = ((full ≡ true) × (fault ≡ floor_refusal PostFull r)) ⊎ ((full ≡ false) × (places ≡ 0) × (fault ≡ no_place r))
-Posted full places r (Err NoMemory) = full ≡ false
+Posted full places r (Err NoMemory) = (full ≡ false) × (0 < places)
 
 -- whether it was, and not what is answered
 abbrev pub unit_of : Result Answer Failure → Result Unit Failure
@@ -143,11 +147,11 @@ pub record Same (before after : World) : Type 0 where
   pub places_are : after.places ≡ before.places
   pub need_is : after.need ≡ before.need
 
--- a call that was carried out, refused, or found no memory
+-- a call that was carried out, refused, or found no memory for what it would have posted
 abbrev pub Did : (ℕ → ℕ → Bool) → World → Work → Result Answer Failure → World → Type 0
 Did f w k (Ok a) v = (e : Effect) × (ruled f w k ≡ Ok e) × (a ≡ e.answer) × Changed w v (replica_of k) e.page e.row (listed e.answer.posts)
 Did f w k (Err (Refused fault)) v = (ruled f w k ≡ Err fault) × Same w v
-Did f w k (Err NoMemory) v = Same w v
+Did f w k (Err NoMemory) v = (e : Effect) × (ruled f w k ≡ Ok e) × PostsSome e × Same w v
 
 -- a call that was cut off: the page is the old one or the new one, nothing is posted, the row is stopped
 pub record Broken (before after : World) (r : ℕ) (p : Page) : Type 0 where

@@ -1,5 +1,7 @@
+use Rattle.std.proofs.Common.{subst}
 use Rattle.std.proofs.lemmas.Result.{err_from_is_err_and}
 use Rattle.runs.specs.World.{World}
+use Rattle.floor.specs.Cuts.{LeftAt}
 use Rattle.floor.specs.Worlds.{world}
 use Rattle.floor.proofs.Ruled.{ruled_refused, break_refused, break_done, break_leaves}
 use Rattle.floor.proofs.floor.Floor.cut_off.Goals as goal
@@ -33,5 +35,8 @@ returns-clause-left g c =
     let f = g.R.QuorumRule.carries c.args.self.now.rule in
     let told = c.in_ok-accepted.ensures.asked in
     let broke = c.in_ok-break_off.ensures in
+    let w : World = world g.S.Store.pages g.S.Store.places c.args.self.now c.args.post.now in
     let v : World = world g.S.Store.pages g.S.Store.places c.break_off.new.self c.args.post.now in
-    break_leaves f _ _ c.args.work told.0 c.in_ok-accepted.accepted told.1 told.2 g.S.Breakable.leaves c.args.n v broke.test broke.left
+    let left = break_leaves f _ _ c.args.work told.0 c.in_ok-accepted.accepted told.1 told.2
+    (g.S.Breakable.leaves c.accept.new.self.store) c.args.n v broke.test broke.left in
+    subst (λ (s : g.row.S.Denot). LeftAt (g.S.Breakable.leaves s) f c.args.n w c.args.work v) c.in_ok-accepted.ensures.store left
