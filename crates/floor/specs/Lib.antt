@@ -4,3 +4,4 @@ pub mod Parts
 pub mod Cuts
 pub mod Memory
 pub mod Ran
+pub mod Led

@@ -10,6 +10,8 @@ mod floor;
 mod founding;
 mod lent;
 mod run;
+mod session;
 mod task;
 
 pub use floor::Floor;
+pub use session::{Session, Unfounded};
