@@ -6,4 +6,4 @@ mod round;
 mod table;
 
 pub use round::Round;
-pub use table::{Example, starred};
+pub use table::{Example, HEAVY, starred};

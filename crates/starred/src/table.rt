@@ -35,7 +35,7 @@ impl Example {
 }
 
 // Replica 1 weighs 5, each other 1.
-const HEAVY: [u8; 16] = [1, 5, 1, 1, 1, 1, 1, 1, 1, 1, 1, 1, 1, 1, 1, 1];
+pub const HEAVY: [u8; 16] = [1, 5, 1, 1, 1, 1, 1, 1, 1, 1, 1, 1, 1, 1, 1, 1];
 
 // No weight is zero, so the rule is not refused.
 #[tactic(auto, unfolding(quorum::specs::Below::any))]
