@@ -36,7 +36,7 @@ use Rattle.runs.specs.Founding.{row_at, founding_page}
 use Rattle.runs.specs.Orderly.{Orderly, IsSilent, Silent, OrderlyRun, RunsOrderly}
 use Rattle.runs.specs.Runs.{Taken, Run, world_at, end_of, Founded}
 use Rattle.runs.specs.Steps.{Step, Halted}
-use Rattle.runs.specs.World.{World, replica_of, page_of, row_of, ruled, listed, Changed, Same, Broken}
+use Rattle.runs.specs.World.{World, replica_of, page_of, row_of, ruled, listed, PostsSome, Changed, Same, Broken}
 use Rattle.runs.specs.declared.work.Call.{Call}
 use Rattle.runs.specs.declared.work.Call.TheVariants.{Whole, Cut, Stop}
 use Rattle.runs.specs.declared.work.Work.{Work}
@@ -48,6 +48,12 @@ MessageKeeps m = message_keeps m ≡ true
 
 abbrev AllKeep : List Message → Type 0
 AllKeep post = All MessageKeeps post
+
+-- no call posts more than two messages
+pub at_most_two : (posts : Posts) → length (listed posts) ≤ 2
+at_most_two Nothing = omega arith
+at_most_two (One m) = omega arith
+at_most_two (Two m n) = omega arith
 
 -- ---- a founding
 module _ (f : ℕ → ℕ → Bool) (first : View) (w : World) (founded : Founded first w) where
@@ -209,11 +215,6 @@ module _ (f : ℕ → ℕ → Bool) (w : World) (o : Orderly f w) where
   listed_keep (Two m n) (a, b) =
       All-cons MessageKeeps m (n ∷ []) a (All-cons MessageKeeps n [] b (All-nil MessageKeeps))
 
-  at_most_two : (posts : Posts) → length (listed posts) ≤ 2
-  at_most_two Nothing = omega arith
-  at_most_two (One m) = omega arith
-  at_most_two (Two m n) = omega arith
-
   -- two messages more, where two places were free
   roomy : (posts : Posts) → leb 65535 (length w.post) ≡ false → length (w.post ++ listed posts) ≤ 65536
   roomy posts l =
@@ -234,8 +235,7 @@ module _ (f : ℕ → ℕ → Bool) (w : World) (o : Orderly f w) where
       subst (λ x. length x ≤ 65536) (sym (nothing_more e.answer.posts (silent_posts (Start r) e tt i))) o.room
 
   -- a call that posts something finds two free places among the 65,536
-  pub posting_has_room : (k : Work) (e : Effect) → ruled f w k ≡ Ok e → 0 < length (listed e.answer.posts) →
-      length w.post + 2 ≤ 65536
+  pub posting_has_room : (k : Work) (e : Effect) → ruled f w k ≡ Ok e → PostsSome e → length w.post + 2 ≤ 65536
   posting_has_room (Views r h) e i some =
       let free = leb-false 65535 (length w.post) (ruled_room f w (Views r h) e i) in omega arith
   posting_has_room (Deliver r j) e i some =
@@ -278,7 +278,7 @@ module _ (f : ℕ → ℕ → Bool) (w : World) (o : Orderly f w) where
   step_orderly : (call : Call) (a : Result Answer Failure) (v : World) → Step f w call a v → Orderly f v
   step_orderly (Whole k) (Ok a) v (e, rules, is, c) = changed_orderly v k e rules c
   step_orderly (Whole k) (Err (Refused fault)) v (rules, s) = same_orderly v s
-  step_orderly (Whole k) (Err NoMemory) v s = same_orderly v s
+  step_orderly (Whole k) (Err NoMemory) v (e, rules, some, s) = same_orderly v s
   step_orderly (Cut k n) (Ok a) v (e, rules, is, b) = broken_orderly v k e rules b
   step_orderly (Cut k n) (Err (Refused fault)) v (rules, s) = same_orderly v s
   step_orderly (Cut k n) (Err NoMemory) v s = absurd s
@@ -291,7 +291,7 @@ module _ (f : ℕ → ℕ → Bool) (w : World) (o : Orderly f w) where
   step_silent (Whole k) (Ok a) v q (e, rules, is, c) =
       c.post_is ∙ nothing_more e.answer.posts (silent_posts k e q rules)
   step_silent (Whole k) (Err (Refused fault)) v q (rules, s) = s.post_is
-  step_silent (Whole k) (Err NoMemory) v q s = s.post_is
+  step_silent (Whole k) (Err NoMemory) v q (e, rules, some, s) = s.post_is
   step_silent (Cut k n) (Ok a) v q (e, rules, is, b) = b.post_is
   step_silent (Cut k n) (Err (Refused fault)) v q (rules, s) = s.post_is
   step_silent (Cut k n) (Err NoMemory) v q s = absurd s
@@ -347,5 +347,5 @@ module _ (f : ℕ → ℕ → Bool) (first : View) (start : World) (before : Lis
 
   -- a call that posts something finds two free places among the 65,536
   pub next_has_room : (now : World) → end_of start before ≡ now → (k : Work) (e : Effect) → ruled f now k ≡ Ok e →
-      0 < length (listed e.answer.posts) → length now.post + 2 ≤ 65536
+      PostsSome e → length now.post + 2 ≤ 65536
   next_has_room now i = posting_has_room f now (now_orderly now i)
