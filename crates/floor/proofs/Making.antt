@@ -21,8 +21,8 @@ calls_more (x ∷ ts) t = ap (λ cs. x.call ∷ cs) (calls_more ts t)
 
 -- ---- want of memory
 -- who lacks room by a capacity lacks it by a smaller one
-lacks_less : (f : ℕ → ℕ → Bool) (w : World) (call : Call) (small large : ℕ) → small ≤ large → LacksRoom f w call large →
-    LacksRoom f w call small
+lacks_less : (f : ℕ → ℕ → Bool) (w : World) (call : Call) (small large : ℕ) → small ≤ large →
+    LacksRoom f w call large → LacksRoom f w call small
 lacks_less f w (Whole k) small large l (e, rules, lacks) = (e, rules, omega arith)
 lacks_less f w (Cut k n) small large l a = a
 lacks_less f w (Stop r) small large l a = a
@@ -35,10 +35,12 @@ lacks_first f w call r first now l lacks none = lacks_less f w call first now l 
 lacks_more : (f : ℕ → ℕ → Bool) (capacity : ℕ) (w v : World) (ts : List Taken) (t : Taken) → end_of w ts ≡ v →
     EachLacksRoom f capacity w ts → (t.answer ≡ Err NoMemory → LacksRoom f v t.call capacity) →
     EachLacksRoom f capacity w (ts ++ t ∷ [])
-lacks_more f capacity w v [] t e all lacks = (λ none. subst (λ (x : World). LacksRoom f x t.call capacity) (sym e) (lacks none), tt)
+lacks_more f capacity w v [] t e all lacks =
+    (λ none. subst (λ (x : World). LacksRoom f x t.call capacity) (sym e) (lacks none), tt)
 lacks_more f capacity w v (x ∷ ts) t e all lacks = (all.0, lacks_more f capacity x.world v ts t e all.1 lacks)
 
-module _ {S : Type 0} (pages : S → List Page) (places : S → ℕ) (leaves : S → ℕ → Page → Page → Page → Type 0) (f : ℕ → ℕ → Bool) where
+module _ {S : Type 0} (pages : S → List Page) (places : S → ℕ) (leaves : S → ℕ → Page → Page → Page → Type 0)
+    (f : ℕ → ℕ → Bool) where
   -- ---- cuts, store by store
   cuts_more : (s : S) (w v : World) (ts : List Taken) (now : S) (t : Taken) (next : S) → end_of w ts ≡ v →
       CutsLeave pages places leaves f s w ts now → pages next ≡ t.world.pages → places next ≡ t.world.places →
@@ -54,8 +56,9 @@ module _ {S : Type 0} (pages : S → List Page) (places : S → ℕ) (leaves : S
   cuts_more s w v (x ∷ ts) now t next e c p n d = (c.0, c.1, c.2, c.3, cuts_more c.0 x.world v ts now t next e c.4 p n d)
 
   -- one call more
-  pub ran_more : (capacity : ℕ) (s : S) (w : World) (now : S) (v : World) (next : S) (u : World) (calls : List Call) (i : ℕ) (d : Call) (r : Result Answer Failure) →
-      i < length calls → Ran pages places leaves f capacity s w now v (take i calls) → Step f v (slice_index_or calls i d) r u →
+  pub ran_more : (capacity : ℕ) (s : S) (w : World) (now : S) (v : World) (next : S) (u : World) (calls : List Call) (i : ℕ)
+      (d : Call) (r : Result Answer Failure) → i < length calls →
+      Ran pages places leaves f capacity s w now v (take i calls) → Step f v (slice_index_or calls i d) r u →
       pages next ≡ u.pages → places next ≡ u.places → CutLeaves (leaves now) f v (slice_index_or calls i d) r u →
       (r ≡ Err NoMemory → LacksRoom f v (slice_index_or calls i d) capacity) →
       Ran pages places leaves f capacity s w next u (take (i + 1) calls)

@@ -28,16 +28,19 @@ two_at_most (One m) = omega arith
 two_at_most (Two m n) = omega arith
 
 -- who lacks room for what a call posts has fewer than two free places
-pub lacks_two : (f : ℕ → ℕ → Bool) (w : World) (call : Call) (capacity : ℕ) → LacksRoom f w call capacity → capacity < length w.post + 2
+pub lacks_two : (f : ℕ → ℕ → Bool) (w : World) (call : Call) (capacity : ℕ) → LacksRoom f w call capacity →
+    capacity < length w.post + 2
 lacks_two f w (Whole k) capacity (e, rules, lacks) = omega (arith, two_at_most e.answer.posts)
 lacks_two f w (Cut k n) capacity a = absurd a
 lacks_two f w (Stop r) capacity a = absurd a
 
 -- a stop and a cut want no memory
-pub stop_finds : (f : ℕ → ℕ → Bool) (w : World) (r : ℕ) (a : Result Answer Failure) (v : World) → Stopped f w r a v → a ≢ Err NoMemory
+pub stop_finds : (f : ℕ → ℕ → Bool) (w : World) (r : ℕ) (a : Result Answer Failure) (v : World) → Stopped f w r a v →
+    a ≢ Err NoMemory
 stop_finds f w r a v s none = subst (λ (x : Result Answer Failure). Stopped f w r x v) none s
 
-pub cut_finds : (f : ℕ → ℕ → Bool) (w : World) (k : Work) (a : Result Answer Failure) (v : World) → CutOff f w k a v → a ≢ Err NoMemory
+pub cut_finds : (f : ℕ → ℕ → Bool) (w : World) (k : Work) (a : Result Answer Failure) (v : World) → CutOff f w k a v →
+    a ≢ Err NoMemory
 cut_finds f w k a v s none = subst (λ (x : Result Answer Failure). CutOff f w k x v) none s
 
 -- an effect that posts nothing does not post something
@@ -50,26 +53,31 @@ few_posted n e = grind (arith, nat_tests)
 
 module _ (f : ℕ → ℕ → Bool) (first : View) (start : World) (founded : Founded first start) where
   -- a loss posts nothing in a run from a founding
-  loss_silent : (before : List Taken) (now : World) → Run f start before → end_of start before ≡ now → (r q : ℕ) (e : Effect) →
-      ruled f now (Loss r q) ≡ Ok e → e.answer.posts ≡ Nothing
-  loss_silent before now run ends r q e rules = lost_posts f now.need r _ _ q e (ruled_accepted f now (Loss r q) e rules).1
+  loss_silent : (before : List Taken) (now : World) → Run f start before → end_of start before ≡ now →
+      (r q : ℕ) (e : Effect) → ruled f now (Loss r q) ≡ Ok e → e.answer.posts ≡ Nothing
+  loss_silent before now run ends r q e rules =
+      lost_posts f now.need r _ _ q e (ruled_accepted f now (Loss r q) e rules).1
 
   module _ (capacity : ℕ) (room : 65536 ≤ capacity) where
     -- a call that posts something has room for it
-    has_room : (before : List Taken) (now : World) → Run f start before → end_of start before ≡ now → (k : Work) (e : Effect) →
-        ruled f now k ≡ Ok e → PostsSome e → LacksRoomFor f now k capacity → ⊥
+    has_room : (before : List Taken) (now : World) → Run f start before → end_of start before ≡ now →
+        (k : Work) (e : Effect) → ruled f now k ≡ Ok e → PostsSome e → LacksRoomFor f now k capacity → ⊥
     has_room before now run ends (Views r h) e rules some (d, allows, lacks) =
-        omega (arith, few_posted (length now.post) (ruled_room f now (Views r h) e rules), two_at_most d.answer.posts, room)
+        let few = few_posted (length now.post) (ruled_room f now (Views r h) e rules) in
+        omega (arith, few, two_at_most d.answer.posts, room)
     has_room before now run ends (Deliver r i) e rules some (d, allows, lacks) =
-        omega (arith, few_posted (length now.post) (ruled_room f now (Deliver r i) e rules), two_at_most d.answer.posts, room)
-    has_room before now run ends (Loss r q) e rules some lacking = silent_some e (loss_silent before now run ends r q e rules) some
+        let few = few_posted (length now.post) (ruled_room f now (Deliver r i) e rules) in
+        omega (arith, few, two_at_most d.answer.posts, room)
+    has_room before now run ends (Loss r q) e rules some lacking =
+        silent_some e (loss_silent before now run ends r q e rules) some
     has_room before now run ends (Start r) e rules some lacking =
         silent_some e (posts_few.starts r _ _ e (ruled_accepted f now (Start r) e rules).1) some
 
     -- so it finds memory
-    finds : (before : List Taken) (now : World) → Run f start before → end_of start before ≡ now → (call : Call) (v : World) →
-        Step f now call (Err NoMemory) v → LacksRoom f now call capacity → ⊥
-    finds before now run ends (Whole k) v (e, rules, some, same) lacks = has_room before now run ends k e rules some lacks
+    finds : (before : List Taken) (now : World) → Run f start before → end_of start before ≡ now →
+        (call : Call) (v : World) → Step f now call (Err NoMemory) v → LacksRoom f now call capacity → ⊥
+    finds before now run ends (Whole k) v (e, rules, some, same) lacks =
+        has_room before now run ends k e rules some lacks
     finds before now run ends (Cut k n) v step lacks = absurd step
     finds before now run ends (Stop r) v step lacks = absurd step
 
@@ -80,4 +88,5 @@ module _ (f : ℕ → ℕ → Bool) (first : View) (start : World) (founded : Fo
         All-cons (λ (x : Taken). x.answer ≢ Err NoMemory) t after
         (λ none. finds before now run ends t.call t.world
         (subst (λ (a : Result Answer Failure). Step f now t.call a t.world) none step) (lacks none))
-        (all_find (before ++ t ∷ []) t.world after (run_step f start before now t run ends step) (end_step start before t) more rest)
+        (all_find (before ++ t ∷ []) t.world after (run_step f start before now t run ends step)
+        (end_step start before t) more rest)

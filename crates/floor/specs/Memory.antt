@@ -15,7 +15,8 @@ AllFindMemory takens = All (λ t. t.answer ≢ Err NoMemory) takens
 module _ (f : ℕ → ℕ → Bool) where
   -- the work k is accepted, and the capacity lacks room for what it posts
   abbrev pub LacksRoomFor : World → Work → ℕ → Type 0
-  LacksRoomFor w k capacity = (e : Effect) × (ruled f w k ≡ Ok e) × (capacity < length w.post + length (listed e.answer.posts))
+  LacksRoomFor w k capacity =
+      (e : Effect) × (ruled f w k ≡ Ok e) × (capacity < length w.post + length (listed e.answer.posts))
 
   -- the same of a call; a cut and a stop post nothing, so that they lack no room
   abbrev pub LacksRoom : World → Call → ℕ → Type 0

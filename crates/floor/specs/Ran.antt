@@ -13,9 +13,10 @@ use Rattle.floor.specs.Cuts.{CutsLeave}
 use Rattle.floor.specs.Memory.{EachLacksRoom, AllFindMemory}
 
 -- over stores with these pages and places, which say this of their cuts, and by the relation f of a rule
-module _ {S : Type 0} (pages : S → List Page) (places : S → ℕ) (leaves : S → ℕ → Page → Page → Page → Type 0) (f : ℕ → ℕ → Bool) where
-  -- The calls, made one after another, led from the store s and the world w to the store t and the world v; each cut left of its page
-  -- what the store says. The post began with this capacity: a call that found no memory lacked room by it.
+module _ {S : Type 0} (pages : S → List Page) (places : S → ℕ) (leaves : S → ℕ → Page → Page → Page → Type 0)
+    (f : ℕ → ℕ → Bool) where
+  -- The calls, made one after another, led from the store s and the world w to the store t and the world v; each cut left of
+  -- its page what the store says. The post began with this capacity: a call that found no memory lacked room by it.
   pub record Ran (capacity : ℕ) (s : S) (w : World) (t : S) (v : World) (calls : List Call) : Type 0 where
     pub takens : List Taken
     pub calls_are : map (λ x. x.call) takens ≡ calls
@@ -24,8 +25,8 @@ module _ {S : Type 0} (pages : S → List Page) (places : S → ℕ) (leaves : S
     pub memory : EachLacksRoom f capacity w takens
     pub ends : end_of w takens ≡ v
 
-  -- Whatever run led to w from a founding, that run and these calls have the three findings; and with room for 65,536 messages no call
-  -- of these finds no memory.
+  -- Whatever run led to w from a founding, that run and these calls have the three findings; and with room for 65,536 messages
+  -- no call of these finds no memory.
   pub record Found (capacity : ℕ) (s : S) (w : World) (t : S) (v : World) (calls : List Call) : Type 0 where
     pub ran : Ran capacity s w t v calls
     pub findings : (first : View) (start : World) (before : List Taken) → Founded first start → Run f start before →
@@ -33,9 +34,9 @@ module _ {S : Type 0} (pages : S → List Page) (places : S → ℕ) (leaves : S
     pub memory : (first : View) (start : World) (before : List Taken) → Founded first start → Run f start before →
         end_of start before ≡ w → 65536 ≤ capacity → AllFindMemory ran.takens
 
-  -- A founding with this first view and this need, on the store s, and the calls after it: the three findings of that run; and with
-  -- room for 65,536 messages no call finds no memory.
-  pub record Evening (capacity : ℕ) (first : View) (need : Need) (s : S) (t : S) (v : World) (calls : List Call) : Type 0 where
+  -- A founding with this first view and this need, on the store s, and the calls after it: the three findings of that run; and
+  -- with room for 65,536 messages no call finds no memory.
+  pub record Evening (capacity : ℕ) (first : View) (need : Need) (s t : S) (v : World) (calls : List Call) : Type 0 where
     pub founded : World
     pub begun : S
     pub spent : SpentBy (size first.set.0) (places s) (places begun)

@@ -18,9 +18,9 @@ use runs::Call;
 use stores::Breakable;
 
 impl<R: QuorumRule + Copy, S: Breakable> Floor<R, S> {
-    // Makes one call; an accepted cut leaves of its page what the store says of its cuts. No memory is found only where the post's
-    // capacity lacks room for what the call posts. Whatever run led here from an accepted founding, its calls and this one have the
-    // three findings.
+    // Makes one call; an accepted cut leaves of its page what the store says of its cuts. No memory is
+    // found only where the post's capacity lacks room for what the call posts. Whatever run led here from
+    // an accepted founding, its calls and this one have the three findings.
     pub fn apply(&mut self, post: &mut Vec<Message>, call: Call) -> Result<Answer, Failure>
         ensures step { Step (R.QuorumRule.carries self.old.rule)
             (world S.Store.pages S.Store.places self.old post.old.items) call result

@@ -26,11 +26,13 @@ fn outgoing_count(posts: Posts) -> usize
     }
 }
 
-// Where the store has a place, room in the post for so many messages. Where it has none the write will be refused, and no room
-// is made, so that want of memory is told last.
+// Where the store has a place, room in the post for so many messages. Where it has none the write
+// will be refused, and no room is made, so that want of memory is told last.
 fn make_room<S: Store>(store: &S, post: &mut Vec<Message>, count: usize) -> Result<(), AllocError>
-    ensures room { OnOk result (0 < S.places store.now → vec_len post.new + count ≤ vec_capacity post.new) }
-    ensures lacking { OnErr result ((0 < S.places store.now) × (vec_capacity post.old < vec_len post.old + count)) }
+    ensures room { OnOk result
+        (0 < S.places store.now → vec_len post.new + count ≤ vec_capacity post.new) }
+    ensures lacking { OnErr result
+        ((0 < S.places store.now) × (vec_capacity post.old < vec_len post.old + count)) }
     ensures items { post.new.items ≡ post.old.items }
     ensures len { vec_len post.new ≡ vec_len post.old }
     ensures capacity { vec_capacity post.old ≤ vec_capacity post.new }

@@ -81,8 +81,8 @@ impl<R: QuorumRule + Copy, S: Breakable> Floor<R, S> {
         self.need
     }
 
-    // Founding: members of the set hold the first view, all sixteen replicas are up and idle, the post is empty. It uses at most one
-    // place for each member.
+    // Founding: members of the set hold the first view, all sixteen replicas are up and idle, the post is
+    // empty. It uses at most one place for each member.
     pub fn found(&mut self, post: &mut Vec<Message>, view: View, need: Need) -> Result<(), Fault>
         ensures answer { result ≡ allowed
             (founding_refusal view (S.Store.pages self.old.store) (S.Store.places self.old.store)) }

@@ -1,8 +1,8 @@
 // Founding: the first view, on a store of fresh pages.
-ghost use Rattle.std.specs.Prelude.{◌≡◌, ◌≤◌, not, length, Ok};
+ghost use Rattle.std.specs.Prelude.{◌≡◌, ◌≤◌, true, not, length, Ok};
 ghost use Rattle.quorum.specs.Below.{any};
-ghost use Rattle.quorum.specs.Members.{size};
-ghost use Rattle.stores.specs.Kept.{page_at};
+ghost use Rattle.quorum.specs.Members.{has, size};
+ghost use Rattle.stores.specs.Kept.{page_at, Written};
 ghost use Rattle.stores.specs.Writings.{SpentBy};
 ghost use Rattle.runs.specs.Founding.{is_fresh, founding_refusal, founding_page, founding_row, FoundedPages, FoundedRows};
 ghost use Rattle.quorum.specs.Faults.{allowed};
@@ -71,6 +71,17 @@ pub(crate) fn founding_rows(view: View) -> [Row; 16]
     Replica::all().map(|replica| founding_row(view, replica))
 }
 
+// Writes a member's page.
+fn write_member<S: Store>(store: &mut S, view: View, replica: Replica) -> Result<(), Fault>
+    requires number { view.number.0 ≤ 1000000000 }
+    requires member { has view.set.0 replica ≡ true }
+    ensures { Written (S.pages store.old) (S.places store.old) (S.pages store.new) (S.places store.new)
+        replica (founding_page view) result }
+{
+    let page = founding_page(view);
+    store.write(KeptPage { replica, page })
+}
+
 // Writes the members' pages, lowest replica first, in a loop over all sixteen, since the contract speaks of each of the sixteen
 // pages. With sixteen places no write is refused.
 pub(crate) fn write_founding<S: Store>(store: &mut S, view: View) -> Result<(), Fault>
@@ -82,8 +93,7 @@ pub(crate) fn write_founding<S: Store>(store: &mut S, view: View) -> Result<(), 
 {
     for replica in Replica::all() {
         if view.set.contains(replica.number()) {
-            let page = founding_page(view);
-            store.write(KeptPage { replica, page })?;
+            write_member(store, view, replica)?;
         }
     }
     Ok(())

@@ -14,8 +14,8 @@ use stores::{Breakable, View};
 
 impl<R: QuorumRule + Copy, S: Breakable> Floor<R, S> {
     fn make_all(&mut self, post: &mut Vec<Message>, calls: &[Call])
-        ensures ran { Ran S.Store.pages S.Store.places S.Breakable.leaves (R.QuorumRule.carries self.old.rule)
-            (vec_capacity post.old)
+        ensures ran { Ran S.Store.pages S.Store.places S.Breakable.leaves
+            (R.QuorumRule.carries self.old.rule) (vec_capacity post.old)
             self.old.store (world S.Store.pages S.Store.places self.old post.old.items)
             self.new.store (world S.Store.pages S.Store.places self.new post.new.items) calls.now }
         ensures rule { self.new.rule ≡ self.old.rule }
@@ -26,11 +26,12 @@ impl<R: QuorumRule + Copy, S: Breakable> Floor<R, S> {
         }
     }
 
-    // Makes the calls, one after another, whatever each answers. Whatever run led here from an accepted founding, that
-    // run and these calls have the three findings, and with room for 65,536 messages no call finds no memory.
+    // Makes the calls, one after another, whatever each answers. Whatever run led here from an accepted
+    // founding, that run and these calls have the three findings, and with room for 65,536 messages no
+    // call finds no memory.
     pub fn run(&mut self, post: &mut Vec<Message>, calls: &[Call])
-        ensures found { Found S.Store.pages S.Store.places S.Breakable.leaves (R.QuorumRule.carries self.old.rule)
-            (vec_capacity post.old)
+        ensures found { Found S.Store.pages S.Store.places S.Breakable.leaves
+            (R.QuorumRule.carries self.old.rule) (vec_capacity post.old)
             self.old.store (world S.Store.pages S.Store.places self.old post.old.items)
             self.new.store (world S.Store.pages S.Store.places self.new post.new.items) calls.now }
         ensures rule { self.new.rule ≡ self.old.rule }
@@ -39,7 +40,8 @@ impl<R: QuorumRule + Copy, S: Breakable> Floor<R, S> {
         self.make_all(post, calls);
     }
 
-    // Founds, and makes the calls: the three findings of that evening. With room for 65,536 messages no call finds no memory.
+    // Founds, and makes the calls: the three findings of that evening. With room for 65,536 messages no
+    // call finds no memory.
     pub fn evening(
         &mut self,
         post: &mut Vec<Message>,

@@ -20,15 +20,6 @@ impl<T> Table<T> {
         Table { rows }
     }
 
-    pub fn len(&self) -> usize
-        ensures value { result ≡ 16 }
-        ensures full { result ≡ length self.now.rows }
-    {
-        let a = &self.rows;
-        let s = &a[..];
-        s.len()
-    }
-
     // The element of a replica.
     pub fn row(&self, replica: Replica) -> &T
         ensures value { (d : T) → result.now ≡ slice_index_or self.now.rows replica d }

@@ -11,7 +11,7 @@ left g c = record {
   pages_are = founded_all c.args.view _ _ (accepted_fresh c.args.view _ _ _ c.in_ok-check_founding.ensures) c.write_founding.ensures.pages;
   rows_are = subst (λ (rows : List Row). FoundedRows c.args.view rows) (sym c.new-self.ensures) c.founding_rows.ensures.rows;
   need_is = refl;
-  silent = c.clear.ensures.items;
+  silent = search rules;
 }
 
 pub returns-clause-founded : goal.returns-clause-founded
