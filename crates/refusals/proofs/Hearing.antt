@@ -1,5 +1,5 @@
 -- Each stage hears what the table says and, of that, nothing that was heard. Assumes nothing.
-use Rattle.std.proofs.Common.{◌≡◌, ℕ, ◌+◌, ◌≤◌, leb, Bool, true, false, not, ◌&&◌, ◌||◌, ◌⊎◌, Decides, List, is_some, Some, None, Ok, Err, Option, Result, sym, refl, ap, subst, inl, inr}
+use Rattle.std.proofs.Common.{◌≡◌, ℕ, ◌+◌, ◌≤◌, Bool, true, false, not, ◌&&◌, ◌||◌, ◌⊎◌, Decides, is_some, Some, None, Ok, Err, Option, Result, sym, refl, ap, subst, inl, inr}
 use Rattle.std.proofs.lemmas.Bool.{both_ways, eqb-true, eq-eqb, leb-true, le-leb}
 use Rattle.std.proofs.lemmas.Bool.Decides.{Decides-and, Decides-or, Decides-at}
 use Rattle.std.proofs.lemmas.Option.{none-some, same_Some}
@@ -11,7 +11,6 @@ use Rattle.quorum.specs.declared.set.ReplicaSet.{ReplicaSet}
 use Rattle.rounds.specs.Reports.{reported}
 use Rattle.rounds.specs.declared.report.Report.{Report}
 use Rattle.stores.proofs.Same.{decides_view}
-use Rattle.stores.specs.Views.{same_view}
 use Rattle.stores.specs.declared.page.Mode.{Mode}
 use Rattle.stores.specs.declared.page.Mode.TheVariants.{Waiting, Joining, Normal, Reconfiguration}
 use Rattle.stores.specs.declared.page.Page.{Page}
@@ -26,9 +25,9 @@ use Rattle.rows.specs.declared.row.Recorders.{Recorders}
 use Rattle.rows.specs.declared.row.Reference.{Reference}
 use Rattle.rows.specs.declared.row.Stage.{Stage}
 use Rattle.rows.specs.declared.row.Stage.TheVariants.{Idle, Gathering, Confirming, Applying, Entering, Round}
-use Rattle.manager.specs.Hearing.{Turn, heard_if, turned, one_above, as_recorded, as_component, reaches_mark, as_reference, gathered_state, gathered_recorded, gathered_answer, confirmed_recorded, confirmed_answer, applied_state, applied_join, entered_recorded, outdoes, hears_stage}
+use Rattle.manager.specs.Hearing.{Turn, heard_if, turned, one_above, as_recorded, as_component, reaches_mark, as_reference, gathered_state, gathered_recorded, gathered_answer, confirmed_recorded, confirmed_answer, applied_state, applied_join, entered_recorded, hears_stage}
 use Rattle.manager.specs.declared.hearing.Hearing.{Hearing}
-use Rattle.manager.specs.declared.hearing.Hearing.TheVariants.{Heard, Answered, Outdone, Aborted}
+use Rattle.manager.specs.declared.hearing.Hearing.TheVariants.{Heard, Answered}
 use Rattle.refusals.specs.Heard.{OneAbove, AsRecorded, ReachesMark, FitsReference, Hears, HasRecorded, WasHeard, kind_of}
 
 -- ---- what the tests say
@@ -46,7 +45,8 @@ like_recorded : (o : Option RecordedView) (n : Number) → Decides (as_recorded 
 like_recorded None n = (λ e. absurd (both_ways false refl e), λ h. absurd (none-some h.0 h.1))
 like_recorded (Some s) n = (
   λ e. let d = eqb-true n.0 s.view.number.0 e in (s, refl, λ i. record { 0 = d i }),
-  λ h. eq-eqb n.0 s.view.number.0 (ap (λ (x : Number). x.0) (subst (λ (v : RecordedView). n ≡ v.view.number) (same_Some h.0 s (sym h.1)) h.2)),
+  λ h. eq-eqb n.0 s.view.number.0
+      (ap (λ (x : Number). x.0) (subst (λ (v : RecordedView). n ≡ v.view.number) (same_Some h.0 s (sym h.1)) h.2)),
 )
 
 like_component : (o : Option View) (c : View) → Decides (as_component o c) (o ≡ Some c)
@@ -79,7 +79,8 @@ reconfiguring Reconfiguration = (λ e. refl, λ h. refl)
 
 pub recorders : (x : Recorders) (q : ℕ) → Decides (has (all_recorders x) q) (HasRecorded x q)
 recorders x q =
-    Decides-at (has (all_recorders x) q) (has x.members.0 q || has x.newcomers.0 q) (has_either x.members.0 x.newcomers.0 q)
+    Decides-at (has (all_recorders x) q) (has x.members.0 q || has x.newcomers.0 q)
+    (has_either x.members.0 x.newcomers.0 q)
     (Decides-or (has x.members.0 q) (has x.newcomers.0 q) (itself (has x.members.0 q)) (itself (has x.newcomers.0 q)))
 
 there : (o : Option Report) → Decides (is_some o) ((m : Report) × (o ≡ Some m))
@@ -92,7 +93,8 @@ abbrev pub Turned : {A : Type 0} → Type 0 → Type 0 → Result (Turn A) Reaso
 Turned H W (Ok t) = H × (W → ⊥)
 Turned H W (Err e) = ((e ≡ NotHeard) × (H → ⊥)) ⊎ ((e ≡ HeardAlready) × H × W)
 
-heard : {A H W : Type 0} (stage : A → Stage) (a b : Bool) (x : A) (k : Hearing) → Decides a H → Decides b W → Turned H W (turned stage (heard_if a b x k))
+heard : {A H W : Type 0} (stage : A → Stage) (a b : Bool) (x : A) (k : Hearing) → Decides a H → Decides b W →
+    Turned H W (turned stage (heard_if a b x k))
 heard stage false b x k d g = inl (refl, λ h. both_ways false refl (d.1 h))
 heard stage true true x k d g = inr (refl, d.0 refl, g.0 refl)
 heard stage true false x k d g = (d.0 refl, λ w. both_ways false refl (g.1 w))
@@ -102,25 +104,37 @@ unheard : {W : Type 0} → ((NotHeard ≡ NotHeard) × (⊥ → ⊥)) ⊎ ((NotH
 unheard = inl (refl, λ h. h)
 
 module _ (p : Page) (survivors : ReplicaSet) (q : ℕ) where
-  pub turns : (s : Stage) (b : Body) → Turned (Hears p survivors s q b) (WasHeard s (kind_of b) q) (hears_stage p survivors q b s)
+  pub turns : (s : Stage) (b : Body) → Turned (Hears p survivors s q b) (WasHeard s (kind_of b) q)
+      (hears_stage p survivors q b s)
   turns (Gathering h g) (State c s) =
-      heard (Gathering h) (has survivors.0 q && as_component p.component c) (has g.states.0 q) (gathered_state g q) Heard
-      (Decides-and (has survivors.0 q) (as_component p.component c) (itself (has survivors.0 q)) (like_component p.component c)) (itself (has g.states.0 q))
+      heard (Gathering h) (has survivors.0 q && as_component p.component c) (has g.states.0 q)
+      (gathered_state g q) Heard
+      (Decides-and (has survivors.0 q) (as_component p.component c) (itself (has survivors.0 q))
+      (like_component p.component c)) (itself (has g.states.0 q))
   turns (Gathering h g) (Recorded n part) =
-      heard (Gathering h) (one_above p.component n) (has (all_recorders g.recorders) q) (gathered_recorded g q part) Heard (above p.component n) (recorders g.recorders q)
+      heard (Gathering h) (one_above p.component n) (has (all_recorders g.recorders) q)
+      (gathered_recorded g q part) Heard (above p.component n) (recorders g.recorders q)
   turns (Gathering h g) (Reports m) =
-      heard (Gathering h) (is_reconfiguration m.mode) g.answered (gathered_answer g) Answered (reconfiguring m.mode) (itself g.answered)
+      heard (Gathering h) (is_reconfiguration m.mode) g.answered (gathered_answer g) Answered (reconfiguring m.mode)
+      (itself g.answered)
   turns (Confirming h g) (Recorded n part) =
-      heard (Confirming h) (as_recorded p.recorded n) (has (all_recorders g.recorders) q) (confirmed_recorded g q part) Heard (like_recorded p.recorded n) (recorders g.recorders q)
+      heard (Confirming h) (as_recorded p.recorded n) (has (all_recorders g.recorders) q)
+      (confirmed_recorded g q part) Heard (like_recorded p.recorded n) (recorders g.recorders q)
   turns (Confirming h g) (Reports m) =
-      heard (Confirming h) (is_reconfiguration m.mode) g.answered (confirmed_answer g) Answered (reconfiguring m.mode) (itself g.answered)
+      heard (Confirming h) (is_reconfiguration m.mode) g.answered (confirmed_answer g) Answered (reconfiguring m.mode)
+      (itself g.answered)
   turns (Applying h a) (State c s) =
-      heard (Applying h) (reaches_mark p.mark c.number && as_reference a.reference c) (has a.states.0 q) (applied_state a q c s) Heard
-      (Decides-and (reaches_mark p.mark c.number) (as_reference a.reference c) (at_mark p.mark c.number) (fitting a.reference c)) (itself (has a.states.0 q))
+      heard (Applying h) (reaches_mark p.mark c.number && as_reference a.reference c) (has a.states.0 q)
+      (applied_state a q c s) Heard
+      (Decides-and (reaches_mark p.mark c.number) (as_reference a.reference c) (at_mark p.mark c.number)
+      (fitting a.reference c)) (itself (has a.states.0 q))
   turns (Applying h a) Abort = (tt, λ w. w)
-  turns (Applying h a) Join = heard (Applying h) (not (is_some a.reference)) (has a.joins.0 q) (applied_join a q) Heard (without_reference a.reference) (itself (has a.joins.0 q))
+  turns (Applying h a) Join =
+      heard (Applying h) (not (is_some a.reference)) (has a.joins.0 q) (applied_join a q) Heard
+      (without_reference a.reference) (itself (has a.joins.0 q))
   turns (Entering h e) (Recorded n part) =
-      heard (Entering h) (as_recorded p.recorded n) (has (all_recorders e.recorders) q) (entered_recorded e q part) Heard (like_recorded p.recorded n) (recorders e.recorders q)
+      heard (Entering h) (as_recorded p.recorded n) (has (all_recorders e.recorders) q)
+      (entered_recorded e q part) Heard (like_recorded p.recorded n) (recorders e.recorders q)
   turns (Round h rs) (Reports m) =
       heard (Round h) true (is_some (reported rs q)) _ _ (λ e. tt, λ e. refl) (there (reported rs q))
   turns Idle b = unheard

@@ -1,5 +1,5 @@
 -- What a turn and a recording say of what was heard. Assumes nothing.
-use Rattle.std.proofs.Common.{◌≡◌, ℕ, ◌<◌, Bool, true, false, ◌&&◌, ◌||◌, ◌⊎◌, eqb, ltb, List, length, set, Some, None, Option, sym, refl, ap, ◌∙◌, subst, inl, inr, ⊎_elim}
+use Rattle.std.proofs.Common.{◌≡◌, ℕ, ◌<◌, true, ◌⊎◌, eqb, ltb, List, length, set, Some, None, Option, sym, refl, ap, ◌∙◌, subst, inl, inr, ⊎_elim}
 use Rattle.std.proofs.lemmas.Bool.{both_ways, and_from, or_left, or_right, eq-eqb, lt-ltb, cases_lt}
 use Rattle.std.proofs.lemmas.List.{get_or-set_same, get_or-set_other, set_past, length-set}
 use Rattle.std.proofs.lemmas.Bool.{cases_eq}
@@ -27,14 +27,13 @@ use Rattle.rows.specs.declared.row.Reference.{Reference}
 use Rattle.rows.specs.declared.row.Stage.{Stage}
 use Rattle.rows.specs.declared.row.Stage.TheVariants.{Idle, Gathering, Confirming, Applying, Entering, Round}
 use Rattle.manager.specs.Calls.{head_of}
-use Rattle.manager.specs.Hearing.{Turn, fixed, gathered_state, gathered_recorded, gathered_answer, confirmed_recorded, confirmed_answer, applied_state, applied_join, entered_recorded}
-use Rattle.manager.specs.declared.hearing.Hearing.{Hearing}
-use Rattle.manager.specs.declared.hearing.Hearing.TheVariants.{Heard, Answered, Outdone, Aborted}
-use Rattle.refusals.specs.Heard.{Kind, kind_of, Hears, HasRecorded, WasHeard, IsPast, IsHeard}
+use Rattle.manager.specs.Hearing.{fixed, gathered_state, gathered_recorded, gathered_answer, confirmed_recorded, confirmed_answer, applied_state, applied_join, entered_recorded}
+use Rattle.manager.specs.declared.hearing.Hearing.TheVariants.{Answered, Aborted}
+use Rattle.refusals.specs.Heard.{Kind, kind_of, Hears, HasRecorded, IsPast, IsHeard}
 use Rattle.refusals.specs.Heard.Kind.{state, abort, join, recorded, report}
 use Rattle.refusals.specs.Once.{HasSixteenPlaces, IsAnswering}
 use Rattle.refusals.proofs.Stages.{Kept}
-use Rattle.refusals.proofs.Turns.{turn, Rules}
+use Rattle.refusals.proofs.Turns.{Rules}
 
 -- ---- sets and reports with one more
 stays_in : (s q k : ℕ) → has s k ≡ true → has (either s (single q)) k ≡ true
@@ -43,9 +42,11 @@ stays_in s q k h = has_either s (single q) k ∙ or_left (has s k) (has (single 
 added : (s q : ℕ) → q < 16 → has (either s (single q)) q ≡ true
 added s q l =
     has_either s (single q) q ∙
-    or_right (has s q) (has (single q) q) (has_alone q q ∙ and_from (eqb q q) (ltb q 16) (eq-eqb q q refl) (lt-ltb q 16 l))
+    or_right (has s q) (has (single q) q)
+    (has_alone q q ∙ and_from (eqb q q) (ltb q 16) (eq-eqb q q refl) (lt-ltb q 16 l))
 
-still_recorded : (x : Recorders) (q : ℕ) (part : Part) (k : ℕ) → HasRecorded x k → HasRecorded (recorders_with x q part) k
+still_recorded : (x : Recorders) (q : ℕ) (part : Part) (k : ℕ) → HasRecorded x k → HasRecorded
+    (recorders_with x q part) k
 still_recorded x q Member k (inl h) = inl (stays_in x.members.0 q k h)
 still_recorded x q Member k (inr h) = inr h
 still_recorded x q Newcomer k (inl h) = inl h
@@ -55,7 +56,8 @@ now_recorded : (x : Recorders) (q : ℕ) (part : Part) → q < 16 → HasRecorde
 now_recorded x q Member l = inl (added x.members.0 q l)
 now_recorded x q Newcomer l = inr (added x.newcomers.0 q l)
 
-still_there : (rs : List (Option Report)) (q : ℕ) (m : Report) (k : ℕ) → (x : Report) × (reported rs k ≡ Some x) → (x : Report) × (reported (set rs q (Some m)) k ≡ Some x)
+still_there : (rs : List (Option Report)) (q : ℕ) (m : Report) (k : ℕ) → (x : Report) × (reported rs k ≡ Some x) →
+    (x : Report) × (reported (set rs q (Some m)) k ≡ Some x)
 still_there rs q m k h =
     ⊎_elim
     (λ e. ⊎_elim
@@ -67,51 +69,61 @@ still_there rs q m k h =
 
 -- ---- what is heard stays heard
 module _ (q k : ℕ) where
-  gathering_state : (kind : Kind) (h : Head) (g : Gathered) → IsHeard (Gathering h g) kind k → IsHeard (Gathering h (gathered_state g q)) kind k
+  gathering_state : (kind : Kind) (h : Head) (g : Gathered) → IsHeard (Gathering h g) kind k → IsHeard
+      (Gathering h (gathered_state g q)) kind k
   gathering_state state h g (inl i) = inl (stays_in g.states.0 q k i)
   gathering_state state h g (inr i) = inr i
   gathering_state kind h g i = i
 
-  gathering_recorded : (kind : Kind) (h : Head) (g : Gathered) (part : Part) → IsHeard (Gathering h g) kind k → IsHeard (Gathering h (gathered_recorded g q part)) kind k
+  gathering_recorded : (kind : Kind) (h : Head) (g : Gathered) (part : Part) → IsHeard (Gathering h g) kind k →
+      IsHeard (Gathering h (gathered_recorded g q part)) kind k
   gathering_recorded recorded h g part (inl i) = inl (still_recorded g.recorders q part k i)
   gathering_recorded recorded h g part (inr i) = inr i
   gathering_recorded kind h g part i = i
 
-  gathering_report : (kind : Kind) (h : Head) (g : Gathered) → IsHeard (Gathering h g) kind k → IsHeard (Gathering h (gathered_answer g)) kind k
+  gathering_report : (kind : Kind) (h : Head) (g : Gathered) → IsHeard (Gathering h g) kind k → IsHeard
+      (Gathering h (gathered_answer g)) kind k
   gathering_report report h g i = inl refl
   gathering_report kind h g i = i
 
-  confirming_recorded : (kind : Kind) (h : Head) (g : Confirmed) (part : Part) → IsHeard (Confirming h g) kind k → IsHeard (Confirming h (confirmed_recorded g q part)) kind k
+  confirming_recorded : (kind : Kind) (h : Head) (g : Confirmed) (part : Part) → IsHeard (Confirming h g) kind k →
+      IsHeard (Confirming h (confirmed_recorded g q part)) kind k
   confirming_recorded recorded h g part (inl i) = inl (still_recorded g.recorders q part k i)
   confirming_recorded recorded h g part (inr i) = inr i
   confirming_recorded kind h g part i = i
 
-  confirming_report : (kind : Kind) (h : Head) (g : Confirmed) → IsHeard (Confirming h g) kind k → IsHeard (Confirming h (confirmed_answer g)) kind k
+  confirming_report : (kind : Kind) (h : Head) (g : Confirmed) → IsHeard (Confirming h g) kind k → IsHeard
+      (Confirming h (confirmed_answer g)) kind k
   confirming_report report h g i = inl refl
   confirming_report kind h g i = i
 
   -- a reference, once there, stays
-  fixed_stays : (o : Option Reference) (c : View) (s : ReplicaSet) → (x : Reference) × (o ≡ Some x) → (x : Reference) × (Some (fixed o c s) ≡ Some x)
+  fixed_stays : (o : Option Reference) (c : View) (s : ReplicaSet) → (x : Reference) × (o ≡ Some x) →
+      (x : Reference) × (Some (fixed o c s) ≡ Some x)
   fixed_stays o c s h = (fixed o c s, refl)
 
-  applying_state : (kind : Kind) (h : Head) (a : Applied) (c : View) (s : ReplicaSet) → IsHeard (Applying h a) kind k → IsHeard (Applying h (applied_state a q c s)) kind k
+  applying_state : (kind : Kind) (h : Head) (a : Applied) (c : View) (s : ReplicaSet) → IsHeard
+      (Applying h a) kind k → IsHeard (Applying h (applied_state a q c s)) kind k
   applying_state state h a c s (inl i) = inl (stays_in a.states.0 q k i)
   applying_state state h a c s (inr i) = inr i
   applying_state join h a c s (inl i) = inl i
   applying_state join h a c s (inr i) = inr (fixed_stays a.reference c s i)
   applying_state kind h a c s i = i
 
-  applying_join : (kind : Kind) (h : Head) (a : Applied) → IsHeard (Applying h a) kind k → IsHeard (Applying h (applied_join a q)) kind k
+  applying_join : (kind : Kind) (h : Head) (a : Applied) → IsHeard (Applying h a) kind k → IsHeard
+      (Applying h (applied_join a q)) kind k
   applying_join join h a (inl i) = inl (stays_in a.joins.0 q k i)
   applying_join join h a (inr i) = inr i
   applying_join kind h a i = i
 
-  entering_recorded : (kind : Kind) (h : Head) (e : Entered) (part : Part) → IsHeard (Entering h e) kind k → IsHeard (Entering h (entered_recorded e q part)) kind k
+  entering_recorded : (kind : Kind) (h : Head) (e : Entered) (part : Part) → IsHeard (Entering h e) kind k → IsHeard
+      (Entering h (entered_recorded e q part)) kind k
   entering_recorded recorded h e part (inl i) = inl (still_recorded e.recorders q part k i)
   entering_recorded recorded h e part (inr i) = inr i
   entering_recorded kind h e part i = i
 
-  round_report : (kind : Kind) (h : Head) (rs : List (Option Report)) (m : Report) → IsHeard (Round h rs) kind k → IsHeard (Round h (set rs q (Some m))) kind k
+  round_report : (kind : Kind) (h : Head) (rs : List (Option Report)) (m : Report) → IsHeard (Round h rs) kind k →
+      IsHeard (Round h (set rs q (Some m))) kind k
   round_report report h rs m (inl i) = inl (still_there rs q m k i)
   round_report report h rs m (inr i) = inr i
   round_report kind h rs m i = i
@@ -160,7 +172,8 @@ heard_kept kind k = record {
 }
 
 -- ---- a turn notes its kind and sender, or closes the head
-pub turn_notes : (q : ℕ) → q < 16 → Rules q (λ s b t. HasSixteenPlaces s → (t.hearing ≡ Aborted) ⊎ IsHeard t.left (kind_of b) q)
+pub turn_notes : (q : ℕ) → q < 16 → Rules q
+    (λ s b t. HasSixteenPlaces s → (t.hearing ≡ Aborted) ⊎ IsHeard t.left (kind_of b) q)
 turn_notes q l = record {
   gathering_state = λ h g c s _. inr (inl (added g.states.0 q l));
   gathering_recorded = λ h g n part _. inr (inl (now_recorded g.recorders q part l));
@@ -175,7 +188,8 @@ turn_notes q l = record {
 }
 
 -- what the stage is past it does not hear
-pub past_unheard : (p : Page) (survivors : ReplicaSet) (s : Stage) (q : ℕ) (b : Body) → IsPast s (kind_of b) → Hears p survivors s q b → ⊥
+pub past_unheard : (p : Page) (survivors : ReplicaSet) (s : Stage) (q : ℕ) (b : Body) → IsPast s (kind_of b) →
+    Hears p survivors s q b → ⊥
 past_unheard p survivors Idle q b i h = h
 past_unheard p survivors (Gathering g x) q (State c s) i h = i
 past_unheard p survivors (Gathering g x) q Abort i h = i
@@ -215,7 +229,8 @@ heard_under (Round h rs) kind q i e = none-some h (sym e)
 
 -- ---- a turn answers a Report to a member, and nothing else
 pub turn_answers : (q : ℕ) →
-    Rules q (λ s b t. (t.hearing ≡ Answered → IsAnswering s × (kind_of b ≡ report)) × (IsAnswering s × (kind_of b ≡ report) → t.hearing ≡ Answered))
+    Rules q (λ s b t. (t.hearing ≡ Answered → IsAnswering s × (kind_of b ≡ report)) ×
+    (IsAnswering s × (kind_of b ≡ report) → t.hearing ≡ Answered))
 turn_answers q = record {
   gathering_state = λ h g c s. (λ e. absurd cc, λ i. absurd cc);
   gathering_recorded = λ h g n part. (λ e. absurd cc, λ i. absurd cc);
@@ -239,7 +254,8 @@ IsQuiet s = Unit {0}
 pub quiet_kept : Kept IsQuiet
 quiet_kept = record { idle = tt; member = λ r h g i. i; newcomer = λ r h a x i. tt }
 
-pub turn_quiet : (q : ℕ) → Rules q (λ s b t. (IsQuiet s → (t.hearing ≡ Answered → ⊥) × IsQuiet t.left) × (t.hearing ≡ Answered → IsQuiet t.left))
+pub turn_quiet : (q : ℕ) → Rules q
+    (λ s b t. (IsQuiet s → (t.hearing ≡ Answered → ⊥) × IsQuiet t.left) × (t.hearing ≡ Answered → IsQuiet t.left))
 turn_quiet q = record {
   gathering_state = λ h g c s. (λ i. (λ e. cc, i), λ e. absurd cc);
   gathering_recorded = λ h g n part. (λ i. (λ e. cc, i), λ e. absurd cc);

@@ -1,5 +1,5 @@
 -- What each stage hears, and what was heard: the table of stages and kinds, as facts. Assumes nothing.
-use Rattle.std.specs.Prelude.{◌≡◌, ℕ, ◌+◌, ◌≤◌, true, ◌⊎◌, List, Some, None, Option}
+use Rattle.std.specs.Prelude.{◌≡◌, ℕ, ◌+◌, ◌≤◌, true, ◌⊎◌, Some, None, Option}
 use Rattle.quorum.specs.Members.{has}
 use Rattle.quorum.specs.declared.set.ReplicaSet.{ReplicaSet}
 use Rattle.rounds.specs.Reports.{reported}
@@ -14,7 +14,7 @@ use Rattle.rows.specs.declared.message.Body.TheVariants.{State, Abort, Join, Rec
 use Rattle.rows.specs.declared.row.Recorders.{Recorders}
 use Rattle.rows.specs.declared.row.Reference.{Reference}
 use Rattle.rows.specs.declared.row.Stage.{Stage}
-use Rattle.rows.specs.declared.row.Stage.TheVariants.{Idle, Gathering, Confirming, Applying, Entering, Round}
+use Rattle.rows.specs.declared.row.Stage.TheVariants.{Gathering, Confirming, Applying, Entering, Round}
 
 -- the five kinds of messages
 pub data Kind : Type 0 where

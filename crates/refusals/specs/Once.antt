@@ -69,18 +69,18 @@ ReportsAnswered =
 
 -- ---- many calls under a head
 -- a call that was accepted, with what it came to
-pub record Done : Type 0 where
+pub record AcceptedCall : Type 0 where
   pub request : Request
   pub effect : Effect
 
 -- calls accepted one after another, from this page and row on, each of which leaves the head h open
-abbrev pub UnderHead : (ℕ → ℕ → Bool) → Need → ℕ → Head → Page → Row → List Done → Type 0
+abbrev pub UnderHead : (ℕ → ℕ → Bool) → Need → ℕ → Head → Page → Row → List AcceptedCall → Type 0
 UnderHead f need r h p w [] = Unit {0}
 UnderHead f need r h p w (d ∷ ds) =
     (effect_of f need r p w d.request ≡ Ok d.effect) × IsOpen h d.effect.row × UnderHead f need r h d.effect.page d.effect.row ds
 
 -- both are deliveries, of one kind from one sender
-pub record IsRepeated (a b : Done) : Type 0 where
+pub record IsRepeated (a b : AcceptedCall) : Type 0 where
   pub first : Message
   pub second : Message
   pub first_is : a.request ≡ delivery first
@@ -89,12 +89,12 @@ pub record IsRepeated (a b : Done) : Type 0 where
   pub sender : first.sender ≡ second.sender
 
 -- a call posts a Report, which is the replica's own
-abbrev pub PostsReport : Done → Type 0
+abbrev pub PostsReport : AcceptedCall → Type 0
 PostsReport d = (x : Message) × IsPosted x d.effect.answer.posts × (kind_of x.body ≡ report)
 
 -- under a head no kind is heard twice from a sender, and no two calls post a Report
 pub record OnceUnderHead : Type 0 where
-  pub heard : (f : ℕ → ℕ → Bool) (need : Need) (r : ℕ) (h : Head) (p : Page) (w : Row) (ds : List Done) →
+  pub heard : (f : ℕ → ℕ → Bool) (need : Need) (r : ℕ) (h : Head) (p : Page) (w : Row) (ds : List AcceptedCall) →
       HasSixteenPlaces w.stage → h.set.0 < 2 ^ 16 → UnderHead f need r h p w ds → AllPairs (λ a b. IsRepeated a b → ⊥) ds
-  pub reported : (f : ℕ → ℕ → Bool) (need : Need) (r : ℕ) (h : Head) (p : Page) (w : Row) (ds : List Done) →
+  pub reported : (f : ℕ → ℕ → Bool) (need : Need) (r : ℕ) (h : Head) (p : Page) (w : Row) (ds : List AcceptedCall) →
       UnderHead f need r h p w ds → AllPairs (λ a b. PostsReport a × PostsReport b → ⊥) ds

@@ -30,9 +30,9 @@ order_of start = AgainstRules ∷ NoSuchReplica ∷ WrongPower ∷ []
 order_of stop = AgainstRules ∷ NoSuchReplica ∷ WrongPower ∷ []
 
 -- of these reasons the first whose condition holds is y
-abbrev pub First : List Reason → (Reason → Type 0) → Reason → Type 0
-First [] Holds y = ⊥
-First (x ∷ xs) Holds y = ((x ≡ y) × Holds y) ⊎ ((Holds x → ⊥) × First xs Holds y)
+abbrev pub IsFirst : List Reason → (Reason → Type 0) → Reason → Type 0
+IsFirst [] Holds y = ⊥
+IsFirst (x ∷ xs) Holds y = ((x ≡ y) × Holds y) ⊎ ((Holds x → ⊥) × IsFirst xs Holds y)
 
 -- ---- what each number means
 -- page or row breaks the rules, or the message that is delivered does
@@ -41,9 +41,9 @@ BreaksRules r p w (delivery m) = (message_keeps m ≡ false) ⊎ (keeps_rules r 
 BreaksRules r p w a = (keeps_rules r p ≡ false) ⊎ (row_keeps r p w ≡ false)
 
 -- a replica is above 15: the call's, or the one that a loss names
-abbrev pub IsAboveAll : ℕ → Request → Type 0
-IsAboveAll r (loss q) = (16 ≤ r) ⊎ (16 ≤ q)
-IsAboveAll r a = 16 ≤ r
+abbrev pub IsAboveFifteen : ℕ → Request → Type 0
+IsAboveFifteen r (loss q) = (16 ≤ r) ⊎ (16 ≤ q)
+IsAboveFifteen r a = 16 ≤ r
 
 -- a head is open
 abbrev pub HasHead : Row → Type 0
@@ -60,7 +60,7 @@ IsStranger w q = (h : Head) × (head_of w.stage ≡ Some h) × (has h.set.0 q �
 -- when a call at replica r, with this page and row, has a reason to be refused
 abbrev pub Condition : ℕ → Page → Row → Request → Reason → Type 0
 Condition r p w a AgainstRules = BreaksRules r p w a
-Condition r p w a NoSuchReplica = IsAboveAll r a
+Condition r p w a NoSuchReplica = IsAboveFifteen r a
 Condition r p w start WrongPower = w.up ≡ true
 Condition r p w a WrongPower = w.up ≡ false
 Condition r p w (view h) ViewWithoutReplica = has h.set.0 r ≡ false
@@ -77,22 +77,22 @@ Condition r p w (loss q) WrongParty = (q ≡ r) ⊎ IsStranger w q ⊎ (has w.lo
 Condition r p w a reason = ⊥
 
 -- the replica that a refusal names: the call's, but of a loss refused for a number above 15 that number, the call's before the one lost
-abbrev pub named : ℕ → Request → Reason → ℕ
-named r (loss q) NoSuchReplica = if nat_lt 15 r then r else q
-named r a reason = r
+abbrev pub replica_named : ℕ → Request → Reason → ℕ
+replica_named r (loss q) NoSuchReplica = if nat_lt 15 r then r else q
+replica_named r a reason = r
 
 -- ---- the laws
 -- a fault is the call's refusal: its reason is the first of the call's order whose condition holds
-pub record Refuses (r : ℕ) (p : Page) (w : Row) (a : Request) (fault : Fault) : Type 0 where
-  pub reason : First (order_of a) (Condition r p w a) fault.reason
-  pub replica : fault.replica ≡ Some (named r a fault.reason)
+pub record IsRefusal (r : ℕ) (p : Page) (w : Row) (a : Request) (fault : Fault) : Type 0 where
+  pub reason : IsFirst (order_of a) (Condition r p w a) fault.reason
+  pub replica : fault.replica ≡ Some (replica_named r a fault.reason)
   pub layer : fault.layer ≡ Manager
 
 -- a call is refused with a fault exactly where it is the call's refusal
 abbrev pub RefusalsInOrder : Type 0
 RefusalsInOrder =
     (f : ℕ → ℕ → Bool) (need : Need) (r : ℕ) (p : Page) (w : Row) (a : Request) (fault : Fault) →
-    (effect_of f need r p w a ≡ Err fault) ↔ Refuses r p w a fault
+    (effect_of f need r p w a ≡ Err fault) ↔ IsRefusal r p w a fault
 
 -- a call is accepted exactly where no condition of its order holds
 abbrev pub AcceptedOtherwise : Type 0
