@@ -26,7 +26,7 @@ use Rattle.rows.specs.declared.row.Recorders.{Recorders}
 use Rattle.rows.specs.declared.row.Reference.{Reference}
 use Rattle.rows.specs.declared.row.Stage.{Stage}
 use Rattle.rows.specs.declared.row.Stage.TheVariants.{Idle, Gathering, Confirming, Applying, Entering, Round}
-use Rattle.manager.specs.Calls.{head_of}
+use Rattle.rows.specs.Rows.{head_of}
 use Rattle.manager.specs.Hearing.{fixed, gathered_state, gathered_recorded, gathered_answer, confirmed_recorded, confirmed_answer, applied_state, applied_join, entered_recorded}
 use Rattle.manager.specs.declared.hearing.Hearing.TheVariants.{Answered, Aborted}
 use Rattle.refusals.specs.Heard.{Kind, kind_of, Hears, HasRecorded, IsPast, IsHeard}
@@ -45,8 +45,8 @@ added s q l =
     or_right (has s q) (has (single q) q)
     (has_alone q q ∙ and_from (eqb q q) (ltb q 16) (eq-eqb q q refl) (lt-ltb q 16 l))
 
-still_recorded : (x : Recorders) (q : ℕ) (part : Part) (k : ℕ) → HasRecorded x k → HasRecorded
-    (recorders_with x q part) k
+still_recorded : (x : Recorders) (q : ℕ) (part : Part) (k : ℕ) → HasRecorded x k →
+    HasRecorded (recorders_with x q part) k
 still_recorded x q Member k (inl h) = inl (stays_in x.members.0 q k h)
 still_recorded x q Member k (inr h) = inr h
 still_recorded x q Newcomer k (inl h) = inl h
@@ -69,8 +69,8 @@ still_there rs q m k h =
 
 -- ---- what is heard stays heard
 module _ (q k : ℕ) where
-  gathering_state : (kind : Kind) (h : Head) (g : Gathered) → IsHeard (Gathering h g) kind k → IsHeard
-      (Gathering h (gathered_state g q)) kind k
+  gathering_state : (kind : Kind) (h : Head) (g : Gathered) → IsHeard (Gathering h g) kind k →
+      IsHeard (Gathering h (gathered_state g q)) kind k
   gathering_state state h g (inl i) = inl (stays_in g.states.0 q k i)
   gathering_state state h g (inr i) = inr i
   gathering_state kind h g i = i
@@ -81,8 +81,8 @@ module _ (q k : ℕ) where
   gathering_recorded recorded h g part (inr i) = inr i
   gathering_recorded kind h g part i = i
 
-  gathering_report : (kind : Kind) (h : Head) (g : Gathered) → IsHeard (Gathering h g) kind k → IsHeard
-      (Gathering h (gathered_answer g)) kind k
+  gathering_report : (kind : Kind) (h : Head) (g : Gathered) → IsHeard (Gathering h g) kind k →
+      IsHeard (Gathering h (gathered_answer g)) kind k
   gathering_report report h g i = inl refl
   gathering_report kind h g i = i
 
@@ -92,8 +92,8 @@ module _ (q k : ℕ) where
   confirming_recorded recorded h g part (inr i) = inr i
   confirming_recorded kind h g part i = i
 
-  confirming_report : (kind : Kind) (h : Head) (g : Confirmed) → IsHeard (Confirming h g) kind k → IsHeard
-      (Confirming h (confirmed_answer g)) kind k
+  confirming_report : (kind : Kind) (h : Head) (g : Confirmed) → IsHeard (Confirming h g) kind k →
+      IsHeard (Confirming h (confirmed_answer g)) kind k
   confirming_report report h g i = inl refl
   confirming_report kind h g i = i
 
@@ -102,22 +102,22 @@ module _ (q k : ℕ) where
       (x : Reference) × (Some (fixed o c s) ≡ Some x)
   fixed_stays o c s h = (fixed o c s, refl)
 
-  applying_state : (kind : Kind) (h : Head) (a : Applied) (c : View) (s : ReplicaSet) → IsHeard
-      (Applying h a) kind k → IsHeard (Applying h (applied_state a q c s)) kind k
+  applying_state : (kind : Kind) (h : Head) (a : Applied) (c : View) (s : ReplicaSet) →
+      IsHeard (Applying h a) kind k → IsHeard (Applying h (applied_state a q c s)) kind k
   applying_state state h a c s (inl i) = inl (stays_in a.states.0 q k i)
   applying_state state h a c s (inr i) = inr i
   applying_state join h a c s (inl i) = inl i
   applying_state join h a c s (inr i) = inr (fixed_stays a.reference c s i)
   applying_state kind h a c s i = i
 
-  applying_join : (kind : Kind) (h : Head) (a : Applied) → IsHeard (Applying h a) kind k → IsHeard
-      (Applying h (applied_join a q)) kind k
+  applying_join : (kind : Kind) (h : Head) (a : Applied) → IsHeard (Applying h a) kind k →
+      IsHeard (Applying h (applied_join a q)) kind k
   applying_join join h a (inl i) = inl (stays_in a.joins.0 q k i)
   applying_join join h a (inr i) = inr i
   applying_join kind h a i = i
 
-  entering_recorded : (kind : Kind) (h : Head) (e : Entered) (part : Part) → IsHeard (Entering h e) kind k → IsHeard
-      (Entering h (entered_recorded e q part)) kind k
+  entering_recorded : (kind : Kind) (h : Head) (e : Entered) (part : Part) → IsHeard (Entering h e) kind k →
+      IsHeard (Entering h (entered_recorded e q part)) kind k
   entering_recorded recorded h e part (inl i) = inl (still_recorded e.recorders q part k i)
   entering_recorded recorded h e part (inr i) = inr i
   entering_recorded kind h e part i = i

@@ -14,7 +14,7 @@ use Rattle.rounds.specs.declared.report.Report.{Report}
 use Rattle.stores.specs.declared.page.Page.{Page}
 use Rattle.stores.specs.declared.view.Head.{Head}
 use Rattle.rows.specs.Messages.{body_keeps, message_keeps}
-use Rattle.rows.specs.Rows.{empty_row}
+use Rattle.rows.specs.Rows.{head_of, empty_row}
 use Rattle.rows.specs.declared.message.Message.{Message}
 use Rattle.rows.specs.declared.message.Posts.{Posts}
 use Rattle.rows.specs.declared.message.Posts.TheVariants.{Nothing}
@@ -22,7 +22,7 @@ use Rattle.rows.specs.declared.row.Row.{Row}
 use Rattle.rows.specs.declared.row.Stage.{Stage}
 use Rattle.rows.specs.declared.row.Stage.TheVariants.{Idle, Gathering, Confirming, Applying, Entering, Round}
 use Rattle.manager.proofs.Accepted.{accepted, announced}
-use Rattle.manager.specs.Calls.{head_of, report_message, own_reports, round_row, topped, gathering_row, state_message, join_message, applying_row, following, losing, started, taking_up, view_refusal, loss_refusal, start_refusal, call_refusal, viewed, delivered, lost_at, stopped_at, started_at}
+use Rattle.manager.specs.Calls.{report_message, own_reports, round_row, topped, gathering_row, state_message, join_message, applying_row, following, losing, started, taking_up, view_refusal, loss_refusal, start_refusal, call_refusal, viewed, delivered, lost_at, stopped_at, started_at}
 use Rattle.manager.specs.Effects.{Effect, effect, in_mode, in_stage, posts_of, judged}
 use Rattle.manager.specs.Requests.{Request, effect_of}
 use Rattle.manager.specs.Requests.Request.{view, delivery, loss, start, stop}
@@ -30,9 +30,9 @@ use Rattle.manager.specs.Verdicts.{verdict_of}
 use Rattle.manager.specs.declared.hearing.Hearing.{Hearing}
 use Rattle.manager.specs.declared.hearing.Hearing.TheVariants.{Heard, Answered, Outdone, Aborted}
 use Rattle.manager.specs.declared.need.Need.{Need}
-use Rattle.refusals.specs.Heard.{Kind, kind_of, IsHeard}
+use Rattle.refusals.specs.Heard.{Kind, kind_of, IsOpen, IsHeard}
 use Rattle.refusals.specs.Heard.Kind.{state, recorded, report}
-use Rattle.refusals.specs.Once.{HasSixteenPlaces, IsOpen, DeliveriesNoted, HeardStays, HeardIsRefused, IsPosted, IsAnswering, ReportsAnswered, AcceptedCall, UnderHead, IsRepeated, PostsReport, OnceUnderHead}
+use Rattle.refusals.specs.Once.{HasSixteenPlaces, DeliveriesNoted, HeardStays, HeardIsRefused, IsPosted, IsAnswering, ReportsAnswered, AcceptedCall, UnderHead, IsRepeated, PostsReport, OnceUnderHead}
 use Rattle.refusals.specs.Order.{order_of, Condition, replica_named}
 use Rattle.refusals.proofs.Found.{Passes, Comes}
 use Rattle.refusals.proofs.Noted.{turn_stays, HeardWhileOpen, heard_kept, turn_notes, past_unheard, heard_under, turn_answers, IsQuiet, quiet_kept, turn_quiet, turn_head, OnlyHead, head_kept, places_kept, turn_places}
@@ -68,8 +68,8 @@ module _ (f : ℕ → ℕ → Bool) (need : Need) (r : ℕ) where
 
     start_comes : started_at r p w ≡ Ok e → effect (in_mode (started p.mode) p) (empty_row true) Nothing ≡ e
     unfolding started_at
-    start_comes d = (accepted (start_refusal r p w)
-        (effect (in_mode (started p.mode) p) (empty_row true) Nothing) e d).1
+    start_comes d =
+        (accepted (start_refusal r p w) (effect (in_mode (started p.mode) p) (empty_row true) Nothing) e d).1
 
     stop_comes : stopped_at r p w ≡ Ok e → effect p (empty_row false) Nothing ≡ e
     unfolding stopped_at
@@ -105,12 +105,12 @@ module _ (f : ℕ → ℕ → Bool) (need : Need) (r : ℕ) where
   sender_there : (p : Page) (w : Row) (m : Message) (e : Effect) → Told f need r p w m e →
       has m.head.set.0 m.sender ≡ true
   unfolding message_keeps
-  sender_there p w m e t = (and_parts (has m.head.set.0 m.sender)
-      (body_keeps m.sender m.head m.body) t.found.message).0
+  sender_there p w m e t =
+      (and_parts (has m.head.set.0 m.sender) (body_keeps m.sender m.head m.body) t.found.message).0
 
   noted_so : (p : Page) (w : Row) (m : Message) (e : Effect) (h : Head) (t : Told f need r p w m e) → IsOpen h e.row →
-      (t.turn.hearing ≡ Aborted) ⊎ IsHeard t.turn.left (kind_of m.body) m.sender → IsHeard e.row.stage
-      (kind_of m.body) m.sender
+      (t.turn.hearing ≡ Aborted) ⊎ IsHeard t.turn.left (kind_of m.body) m.sender →
+      IsHeard e.row.stage (kind_of m.body) m.sender
   noted_so p w m e h t o (inl k) =
       let gone : following f need r p (in_stage t.turn.left w) m.head Aborted ≡ e =
       ap (following f need r p (in_stage t.turn.left w) m.head) (sym k) ∙ t.follows in
@@ -139,13 +139,13 @@ module _ (f : ℕ → ℕ → Bool) (need : Need) (r : ℕ) where
       (λ m t _ _ _. by_rules m.sender _ p w.survivors (turn_stays m.sender q kind) w.stage m.body t.turn t.heard i)
       (λ g _ none. absurd (heard_under w.stage kind q i none)) h o
 
-  not_again : (p : Page) (w : Row) (m : Message) → IsHeard w.stage (kind_of m.body) m.sender → Passes
-      (Condition r p w (delivery m)) (replica_named r (delivery m)) (order_of (delivery m)) → ⊥
+  not_again : (p : Page) (w : Row) (m : Message) → IsHeard w.stage (kind_of m.body) m.sender →
+      Passes (Condition r p w (delivery m)) (replica_named r (delivery m)) (order_of (delivery m)) → ⊥
   not_again p w m (inl i) n = n 7 HeardAlready (omega arith) i
   not_again p w m (inr i) n = n 6 NotHeard (omega arith) (past_unheard p w.survivors w.stage m.sender m.body i)
 
-  refused_so : (p : Page) (w : Row) (m : Message) (x : Result Effect Fault) → Comes (Condition r p w (delivery m))
-      (replica_named r (delivery m)) (order_of (delivery m)) x →
+  refused_so : (p : Page) (w : Row) (m : Message) (x : Result Effect Fault) →
+      Comes (Condition r p w (delivery m)) (replica_named r (delivery m)) (order_of (delivery m)) x →
       IsHeard w.stage (kind_of m.body) m.sender → (fault : Fault) × (x ≡ Err fault)
   refused_so p w m x (inl k) i = absurd (not_again p w m i k.2)
   refused_so p w m x (inr k) i = (_, k.fault)
@@ -160,17 +160,23 @@ module _ (f : ℕ → ℕ → Bool) (need : Need) (r : ℕ) where
 
   -- a message that was heard is answered first, or nothing is posted before a Recorded
   abbrev Follows : Page → Head → Hearing → Posts → Type 0
-  Follows p h k posts = ((k ≡ Answered) × Adds (Some (report_message r h p)) posts) ⊎
-      ((k ≡ Answered → ⊥) × Adds None posts)
+  Follows p h k posts =
+      ((k ≡ Answered) × Adds (Some (report_message r h p)) posts) ⊎ ((k ≡ Answered → ⊥) × Adds None posts)
 
-  follows_posts : (p : Page) (w : Row) (h : Head) (k : Hearing) → Follows p h k
-      (following f need r p w h k).answer.posts
+  follows_posts : (p : Page) (w : Row) (h : Head) (k : Hearing) →
+      Follows p h k (following f need r p w h k).answer.posts
   follows_posts p w h Heard = inr (λ e. cc, judged_adds f need r p w None)
   follows_posts p w h Answered = inl (refl, judged_adds f need r p w (Some (report_message r h p)))
   follows_posts p w h Outdone =
       inr (λ e. cc, record { second = None; is = refl; recorded_only = λ x i. absurd (none-some x i) })
   follows_posts p w h Aborted =
       inr (λ e. cc, record { second = None; is = refl; recorded_only = λ x i. absurd (none-some x i) })
+
+  told_posts : (p : Page) (w : Row) (m : Message) (e : Effect) (t : Told f need r p w m e) →
+      Follows p m.head t.turn.hearing e.answer.posts
+  told_posts p w m e t =
+      subst (λ (y : Effect). Follows p m.head t.turn.hearing y.answer.posts) t.follows
+      (follows_posts p (in_stage t.turn.left w) m.head t.turn.hearing)
 
   answered_so : (p : Page) (h : Head) (k : Hearing) (posts : Posts) (x : Message) → Follows p h k posts →
       (IsPosted x posts × (kind_of x.body ≡ report)) ↔ ((k ≡ Answered) × (x ≡ report_message r h p))
@@ -184,8 +190,7 @@ module _ (f : ℕ → ℕ → Bool) (need : Need) (r : ℕ) where
         ),
         λ i. (
           subst (IsPosted x) (sym a.1.is) ((posted_of (Some own) a.1.second x).1 (inl (ap Some (sym i.1)))),
-          ap
-              (λ (y : Message). kind_of y.body) i.1,
+          ap (λ (y : Message). kind_of y.body) i.1,
         ),
       )
   answered_so p h k posts x (inr a) =
@@ -197,9 +202,7 @@ module _ (f : ℕ → ℕ → Bool) (need : Need) (r : ℕ) where
   answers p w m e d x =
       let t = told f need r p w m e d in
       let fits = by_rules m.sender _ p w.survivors (turn_answers m.sender) w.stage m.body t.turn t.heard in
-      let both = answered_so p m.head t.turn.hearing e.answer.posts x
-      (subst (λ (y : Effect). Follows p m.head t.turn.hearing y.answer.posts) t.follows
-      (follows_posts p (in_stage t.turn.left w) m.head t.turn.hearing)) in (
+      let both = answered_so p m.head t.turn.hearing e.answer.posts x (told_posts p w m e t) in (
         λ i. let j = both.0 i in let k = fits.0 j.0 in (k.0, k.1, j.1),
         λ i. both.1 (fits.1 (i.0, i.1), i.2),
       )
@@ -213,8 +216,8 @@ module _ (f : ℕ → ℕ → Bool) (need : Need) (r : ℕ) where
   nothing_reported posts a x i k = no_report None posts a (λ y e _. none-some y e) x i k
 
   -- a view that is taken up with a Report begins a round, or the replica waits
-  view_quiet : (p : Page) (w : Row) (h : Head) → Reports (taking_up f need r p w h) → IsQuiet
-      (taking_up f need r p w h).row.stage
+  view_quiet : (p : Page) (w : Row) (h : Head) → Reports (taking_up f need r p w h) →
+      IsQuiet (taking_up f need r p w h).row.stage
   view_quiet p w h =
       begins f need r h (λ e. Reports e → IsQuiet e.row.stage) p w (record {
         waits = λ _. judged_stage IsQuiet quiet_kept f need r (topped p h) (applying_row w h)
@@ -240,9 +243,7 @@ module _ (f : ℕ → ℕ → Bool) (need : Need) (r : ℕ) where
       subst (λ (y : Effect). Reports y → IsQuiet y.row.stage) a.1 (view_quiet p w h) x
   reports_once p w (delivery m) e d x =
       let t = told f need r p w m e d in
-      let k = ((answered_so p m.head t.turn.hearing e.answer.posts x.0
-      (subst (λ (y : Effect). Follows p m.head t.turn.hearing y.answer.posts) t.follows
-      (follows_posts p (in_stage t.turn.left w) m.head t.turn.hearing))).0 (x.1, x.2)).0 in
+      let k = ((answered_so p m.head t.turn.hearing e.answer.posts x.0 (told_posts p w m e t)).0 (x.1, x.2)).0 in
       let i = (by_rules m.sender _ p w.survivors (turn_quiet m.sender) w.stage m.body t.turn t.heard).1 k in
       subst (λ (y : Effect). IsQuiet y.row.stage) t.follows
       (following_stage IsQuiet quiet_kept f need r p (in_stage t.turn.left w) m.head t.turn.hearing i)
@@ -259,9 +260,7 @@ module _ (f : ℕ → ℕ → Bool) (need : Need) (r : ℕ) where
   reports_no_more p w (view g) e h d o i x = none-some h (sym (view_comes p w e g d).0 ∙ o)
   reports_no_more p w (delivery m) e h d o i x =
       let t = told f need r p w m e d in
-      let k = ((answered_so p m.head t.turn.hearing e.answer.posts x.0
-      (subst (λ (y : Effect). Follows p m.head t.turn.hearing y.answer.posts) t.follows
-      (follows_posts p (in_stage t.turn.left w) m.head t.turn.hearing))).0 (x.1, x.2)).0 in
+      let k = ((answered_so p m.head t.turn.hearing e.answer.posts x.0 (told_posts p w m e t)).0 (x.1, x.2)).0 in
       ((by_rules m.sender _ p w.survivors (turn_quiet m.sender) w.stage m.body t.turn t.heard).0 i).0 k
   reports_no_more p w (loss q) e h d o i x =
       nothing_reported e.answer.posts
@@ -278,8 +277,8 @@ module _ (f : ℕ → ℕ → Bool) (need : Need) (r : ℕ) where
       (λ g _ none. absurd (none-some h (sym none ∙ o)))
 
   -- ---- a round's places
-  begun_places : (p : Page) (w : Row) (h : Head) → HasSixteenPlaces w.stage → HasSixteenPlaces
-      (taking_up f need r p w h).row.stage
+  begun_places : (p : Page) (w : Row) (h : Head) → HasSixteenPlaces w.stage →
+      HasSixteenPlaces (taking_up f need r p w h).row.stage
   begun_places p w h i =
       begins f need r h (λ e. HasSixteenPlaces e.row.stage) p w (record {
         waits = judged_stage HasSixteenPlaces places_kept f need r (topped p h) (applying_row w h)
@@ -309,8 +308,7 @@ module _ (f : ℕ → ℕ → Bool) (need : Need) (r : ℕ) where
     IsNotAgain kind q b = (m : Message) → b.request ≡ delivery m → kind_of m.body ≡ kind → m.sender ≡ q → ⊥
 
     later : (kind : Kind) (q : ℕ) (p : Page) (w : Row) (ds : List AcceptedCall) → UnderHead f need r h p w ds →
-        IsHeard w.stage kind q →
-        All (IsNotAgain kind q) ds
+        IsHeard w.stage kind q → All (IsNotAgain kind q) ds
     later kind q p w [] u i = All-nil (IsNotAgain kind q)
     later kind q p w (d ∷ ds) u i =
         All-cons (IsNotAgain kind q) d ds
@@ -344,8 +342,8 @@ module _ (f : ℕ → ℕ → Bool) (need : Need) (r : ℕ) where
         (sym again.sender))
         (heard_once d.effect.page d.effect.row ds (keeps_places p w d.request d.effect u.0 places) small u.2)
 
-    reported_once : (p : Page) (w : Row) (ds : List AcceptedCall) → UnderHead f need r h p w ds → AllPairs
-        (λ a b. PostsReport a × PostsReport b → ⊥) ds
+    reported_once : (p : Page) (w : Row) (ds : List AcceptedCall) → UnderHead f need r h p w ds →
+        AllPairs (λ a b. PostsReport a × PostsReport b → ⊥) ds
     reported_once p w [] u = λ i j x l k both. omega arith
     reported_once p w (d ∷ ds) u =
         AllPairs-cons (λ a b. PostsReport a × PostsReport b → ⊥) d ds

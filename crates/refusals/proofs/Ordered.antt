@@ -1,8 +1,8 @@
 -- Each call comes to the first of its refusals whose condition holds, or is accepted where none does. Assumes nothing.
 use Rattle.std.specs.Option.{option_or}
 use Rattle.std.proofs.Common.{◌≡◌, ℕ, ◌≤◌, leb, eqb, Bool, true, false, not, ◌&&◌, ◌||◌, ◌≢◌, ◌⊎◌, ◌↔◌, All, Decides, List, [], ◌∷◌, is_some, Some, None, Ok, Err, Option, Result, sym, refl, ap, ◌∙◌, subst, inl, inr, ⊎_elim}
-use Rattle.std.proofs.lemmas.Bool.{cond_both, cases_Bool, both_ways, eqb-true, eq-eqb, leb-true, le-leb, not-true, not_from_false, and_cases, and_left, and_right}
-use Rattle.std.proofs.lemmas.Bool.Decides.{Decides-and, Decides-or}
+use Rattle.std.proofs.lemmas.Bool.{cond_both, cases_Bool, both_ways, eqb-true, eq-eqb, leb-true, le-leb, not-true, not_from_false, and_cases, and_parts, false_from_ne_true}
+use Rattle.std.proofs.lemmas.Bool.Decides.{Decides-and, Decides-or, Decides-not}
 use Rattle.std.proofs.lemmas.List.Elements.{All-nil, All-cons, All-append}
 use Rattle.std.proofs.lemmas.Option.{none-some, same_Some}
 use Rattle.quorum.specs.Faults.{refused_if, given}
@@ -11,7 +11,9 @@ use Rattle.quorum.specs.declared.fault.Fault.{Fault}
 use Rattle.quorum.specs.declared.fault.Layer.TheVariants.{Manager}
 use Rattle.quorum.specs.declared.fault.Reason.{Reason}
 use Rattle.quorum.specs.declared.fault.Reason.TheVariants.{NoSuchReplica, WrongPower, ViewWithoutReplica, HeadOpen, StampNotAbove, NumbersExhausted, NoHead, OtherHead, WrongParty, NotHeard, HeardAlready, AgainstRules}
+use Rattle.stores.proofs.Kept.{rules_from, keeps_from}
 use Rattle.stores.proofs.Same.{decides_head}
+use Rattle.stores.specs.Facts.{PageRules}
 use Rattle.stores.specs.Rules.{keeps_rules}
 use Rattle.stores.specs.Views.{same_head}
 use Rattle.stores.specs.declared.page.Mode.{Mode}
@@ -19,8 +21,10 @@ use Rattle.stores.specs.declared.page.Mode.TheVariants.{Waiting, Joining, Normal
 use Rattle.stores.specs.declared.page.Page.{Page}
 use Rattle.stores.specs.declared.view.Head.{Head}
 use Rattle.stores.specs.declared.view.View.{View}
+use Rattle.rows.proofs.Kept.{message_rules, message_back, row_rules, row_back}
+use Rattle.rows.specs.Facts.{RowRules}
 use Rattle.rows.specs.Messages.{message_keeps}
-use Rattle.rows.specs.Rows.{is_normal, row_keeps, empty_row}
+use Rattle.rows.specs.Rows.{head_of, is_normal, row_keeps, empty_row}
 use Rattle.rows.specs.declared.message.Message.{Message}
 use Rattle.rows.specs.declared.message.Posts.TheVariants.{Nothing}
 use Rattle.rows.specs.declared.row.Row.{Row}
@@ -31,8 +35,8 @@ use Rattle.manager.specs.Effects.{Effect, effect, in_mode, in_stage, judged}
 use Rattle.manager.specs.Hearing.{Turn, hears}
 use Rattle.manager.specs.Requests.{Request, effect_of}
 use Rattle.manager.specs.Requests.Request.{view, delivery, loss, start, stop}
-use Rattle.refusals.specs.Heard.{Hears, WasHeard, kind_of}
-use Rattle.refusals.specs.Order.{order_of, HasHead, IsExhausted, IsStranger, Condition, replica_named, IsRefusal, RefusalsInOrder, AcceptedOtherwise}
+use Rattle.refusals.specs.Heard.{IsOpen, Hears, WasHeard, kind_of}
+use Rattle.refusals.specs.Order.{order_of, IsExhausted, IsStranger, Condition, replica_named, IsRefusal, RefusalsInOrder, AcceptedOtherwise}
 use Rattle.refusals.proofs.Found.{Passes, Refused, Found, found_one, found_either, found_next, first_stays, first_later, passes_or_stops, one_first, Comes, comes_given}
 use Rattle.refusals.proofs.Hearing.{Turned, turns}
 
@@ -54,18 +58,23 @@ at_most m n = (leb-true m n, le-leb m n)
 equals : (m n : ℕ) → Decides (eqb m n) (m ≡ n)
 equals m n = (eqb-true m n, eq-eqb m n)
 
-broken : (r : ℕ) (p : Page) (w : Row) → Decides (not (all_keep r p w))
-    ((keeps_rules r p ≡ false) ⊎ (row_keeps r p w ≡ false))
-broken r p w = (
-  λ e. and_cases (keeps_rules r p) (row_keeps r p w) (not-true (all_keep r p w) e),
-  λ h. not_from_false (all_keep r p w) (breaks h),
-)
+both_kept : (r : ℕ) (p : Page) (w : Row) → Decides (not (all_keep r p w)) ((PageRules r p → ⊥) ⊎ (RowRules r p w → ⊥))
+both_kept r p w = (there, back)
   where
-    breaks : (keeps_rules r p ≡ false) ⊎ (row_keeps r p w ≡ false) → all_keep r p w ≡ false
-    breaks (inl e) = and_left (keeps_rules r p) (row_keeps r p w) e
-    breaks (inr e) = and_right (keeps_rules r p) (row_keeps r p w) e
+    there : not (all_keep r p w) ≡ true → (PageRules r p → ⊥) ⊎ (RowRules r p w → ⊥)
+    there e =
+        ⊎_elim (λ i. inl (λ k. both_ways (keeps_rules r p) i (keeps_from r p k)))
+        (λ i. inr (λ k. both_ways (row_keeps r p w) i (row_back r p w k)))
+        (and_cases (keeps_rules r p) (row_keeps r p w) (not-true (all_keep r p w) e))
 
-opened : (w : Row) (o : Option Head) → head_of w.stage ≡ o → Decides (is_some o) (HasHead w)
+    breaks : (PageRules r p → ⊥) ⊎ (RowRules r p w → ⊥) → all_keep r p w ≡ true → ⊥
+    breaks (inl n) e = n (rules_from r p (and_parts (keeps_rules r p) (row_keeps r p w) e).0)
+    breaks (inr n) e = n (row_rules r p w (and_parts (keeps_rules r p) (row_keeps r p w) e).1)
+
+    back : (PageRules r p → ⊥) ⊎ (RowRules r p w → ⊥) → not (all_keep r p w) ≡ true
+    back n = not_from_false (all_keep r p w) (false_from_ne_true (all_keep r p w) (breaks n))
+
+opened : (w : Row) (o : Option Head) → head_of w.stage ≡ o → Decides (is_some o) ((g : Head) × IsOpen g w)
 opened w None e = (λ i. absurd (both_ways false refl i), λ h. absurd (none-some h.0 (sym e ∙ h.1)))
 opened w (Some h) e = (λ i. (h, e), λ k. refl)
 
@@ -132,7 +141,7 @@ module _ (r : ℕ) (p : Page) (w : Row) where
       let same : option_or rules_test (option_or number_test (option_or power_test rest)) ≡ option_or
       (call_refusal r p w) rest = simp joined in
       subst (FoundBy a (order_of a)) same
-      (next a (one a AgainstRules r (not (all_keep r p w)) refl (broken r p w))
+      (next a (one a AgainstRules r (not (all_keep r p w)) refl (both_kept r p w))
       (next a (one a NoSuchReplica r (leb 16 r) refl (at_most 16 r))
       (next a (one a WrongPower r (not w.up) refl (down w.up)) (announcement_found h))))
 
@@ -172,7 +181,8 @@ module _ (r : ℕ) (p : Page) (w : Row) where
       found_either (Condition r p w (delivery m)) (replica_named r (delivery m)) AgainstRules r r
       (not (message_keeps m)) (not (all_keep r p w))
       (cond_both (not (message_keeps m)) r r (λ k. k ≡ r) (λ _. refl) (λ _. refl))
-      (Decides-or (not (message_keeps m)) (not (all_keep r p w)) (down (message_keeps m)) (broken r p w))
+      (Decides-or (not (message_keeps m)) (not (all_keep r p w))
+      (Decides-not (message_keeps m) (message_rules m, message_back m)) (both_kept r p w))
 
   delivery_found : (m : Message) → FoundBy (delivery m) arriving (delivery_refusal r p w m)
   unfolding delivery_refusal
@@ -220,7 +230,7 @@ module _ (r : ℕ) (p : Page) (w : Row) where
       let same : option_or rules_test (option_or (option_or number_test other) (option_or power_test rest))
       ≡ option_or (offer_refusal r p w) (option_or other (option_or power_test rest)) = simp joined in
       subst (FoundBy a (order_of a)) same
-      (next a (one a AgainstRules r (not (all_keep r p w)) refl (broken r p w))
+      (next a (one a AgainstRules r (not (all_keep r p w)) refl (both_kept r p w))
       (next a (numbers_found q)
       (next a (one a WrongPower r (not w.up) refl (down w.up)) (party_found q (head_of w.stage) refl))))
 
@@ -232,7 +242,7 @@ module _ (r : ℕ) (p : Page) (w : Row) where
       let same : option_or rules_test (option_or number_test power) ≡ option_or (offer_refusal r p w) power =
       simp joined in
       subst (FoundBy start (order_of start)) same
-      (next start (one start AgainstRules r (not (all_keep r p w)) refl (broken r p w))
+      (next start (one start AgainstRules r (not (all_keep r p w)) refl (both_kept r p w))
       (next start (one start NoSuchReplica r (leb 16 r) refl (at_most 16 r))
       (one start WrongPower r w.up refl (up w.up))))
 
@@ -240,7 +250,7 @@ module _ (r : ℕ) (p : Page) (w : Row) where
   stop_found =
       let same : option_or rules_test (option_or number_test power_test) ≡ call_refusal r p w = simp joined in
       subst (FoundBy stop (order_of stop)) same
-      (next stop (one stop AgainstRules r (not (all_keep r p w)) refl (broken r p w))
+      (next stop (one stop AgainstRules r (not (all_keep r p w)) refl (both_kept r p w))
       (next stop (one stop NoSuchReplica r (leb 16 r) refl (at_most 16 r))
       (one stop WrongPower r (not w.up) refl (down w.up))))
 

@@ -1,4 +1,5 @@
--- What a call leaves of the stage and posts: by judging, by what follows from a message, by taking up a view. Assumes nothing.
+-- What a call leaves of the stage and posts: by judging, by what follows from a message, by taking up a view. Assumes
+-- nothing.
 use Rattle.std.proofs.Common.{◌≡◌, ℕ, Bool, if◌then◌else◌, ◌⊎◌, ◌↔◌, Some, None, Ok, Err, Option, Result, sym, refl, ap, inl, inr}
 use Rattle.std.proofs.lemmas.Bool.{cond_both}
 use Rattle.std.proofs.lemmas.Option.{none-some, same_Some}
@@ -44,19 +45,19 @@ use Rattle.refusals.specs.Once.{IsPosted}
 -- a fact of stages that idle has, and that recording hands on
 pub record Kept (Q : Stage → Type 0) : Type 0 where
   pub idle : Q Idle
-  pub member : (r : ℕ) (h : Head) (g : Gathered) → Q (Gathering h g) → Q
-      (Confirming h (record { recorders = recorders_with g.recorders r Member; answered = g.answered }))
-  pub newcomer : (r : ℕ) (h : Head) (a : Applied) (x : Reference) → Q (Applying h a) → Q
-      (Entering h (record { reference = x; recorders = recorders_with no_recorders r Newcomer }))
+  pub member : (r : ℕ) (h : Head) (g : Gathered) → Q (Gathering h g) →
+      Q (Confirming h (record { recorders = recorders_with g.recorders r Member; answered = g.answered }))
+  pub newcomer : (r : ℕ) (h : Head) (a : Applied) (x : Reference) → Q (Applying h a) →
+      Q (Entering h (record { reference = x; recorders = recorders_with no_recorders r Newcomer }))
 
 module _ (Q : Stage → Type 0) (k : Kept Q) where
-  installing_stage : (p : Page) (w : Row) (posts : Posts) (o : Option RecordedView) → Q
-      (installing p w posts o).row.stage
+  installing_stage : (p : Page) (w : Row) (posts : Posts) (o : Option RecordedView) →
+      Q (installing p w posts o).row.stage
   installing_stage p w posts None = k.idle
   installing_stage p w posts (Some s) = k.idle
 
-  settling_stage : (r : ℕ) (p : Page) (w : Row) (posts : Posts) (o : Outcome) (v : Option View) → Q
-      (settling r p w posts o v).row.stage
+  settling_stage : (r : ℕ) (p : Page) (w : Row) (posts : Posts) (o : Outcome) (v : Option View) →
+      Q (settling r p w posts o v).row.stage
   settling_stage r p w posts o None = k.idle
   settling_stage r p w posts o (Some v) =
       cond_both (has v.set.0 r)
@@ -64,8 +65,8 @@ module _ (Q : Stage → Type 0) (k : Kept Q) where
       (ending (spare_page p) (spare_row w) posts o (Some v)) (λ (e : Effect). Q e.row.stage) (λ _. k.idle)
       (λ _. k.idle)
 
-  pub carried_stage : (r : ℕ) (p : Page) (w : Row) (posts : Posts) (v : Verdict) → Q w.stage → Q
-      (carried_out r p w posts v).row.stage
+  pub carried_stage : (r : ℕ) (p : Page) (w : Row) (posts : Posts) (v : Verdict) → Q w.stage →
+      Q (carried_out r p w posts v).row.stage
   carried_stage r p w posts Stays i = i
   carried_stage r p w posts Records i = i
   carried_stage r p w posts Installs i = installing_stage p w posts p.recorded
@@ -74,8 +75,8 @@ module _ (Q : Stage → Type 0) (k : Kept Q) where
   carried_stage r p w posts Forgets i = k.idle
   carried_stage r p w posts (Ends o v) i = settling_stage r p w posts o v
 
-  member_stage : (r : ℕ) (p : Page) (w : Row) (h : Head) (g : Gathered) (o : Option Number) → Q w.stage → Q
-      (Gathering h g) → Q (member_entry r p w h g o).row.stage
+  member_stage : (r : ℕ) (p : Page) (w : Row) (h : Head) (g : Gathered) (o : Option Number) → Q w.stage →
+      Q (Gathering h g) → Q (member_entry r p w h g o).row.stage
   member_stage r p w h g None i j = i
   member_stage r p w h g (Some n) i j = k.member r h g j
 
@@ -84,8 +85,8 @@ module _ (Q : Stage → Type 0) (k : Kept Q) where
   numbered_stage r p w h a x None i j = i
   numbered_stage r p w h a x (Some n) i j = k.newcomer r h a x j
 
-  newcomer_stage : (r : ℕ) (p : Page) (w : Row) (h : Head) (a : Applied) (o : Option Reference) → Q w.stage → Q
-      (Applying h a) → Q (newcomer_entry r p w h o).row.stage
+  newcomer_stage : (r : ℕ) (p : Page) (w : Row) (h : Head) (a : Applied) (o : Option Reference) → Q w.stage →
+      Q (Applying h a) → Q (newcomer_entry r p w h o).row.stage
   newcomer_stage r p w h a None i j = i
   newcomer_stage r p w h a (Some x) i j = numbered_stage r p w h a x (next_of x.component.number) i j
 
@@ -98,16 +99,16 @@ module _ (Q : Stage → Type 0) (k : Kept Q) where
   entry_stage r p w (Round h rs) i j = i
 
   module _ (f : ℕ → ℕ → Bool) (need : Need) (r : ℕ) where
-    pub again_stage : (p : Page) (w : Row) (m : Option Message) → Q w.stage → Q
-        (judged_again f need r m (entry_of r p w)).row.stage
+    pub again_stage : (p : Page) (w : Row) (m : Option Message) → Q w.stage →
+        Q (judged_again f need r m (entry_of r p w)).row.stage
     unfolding entry_of
     again_stage p w m i =
         let e = stage_entry r p w w.stage in
         carried_stage r e.page e.row (posts_of m e.message) (verdict_of f need r e.page e.row)
         (entry_stage r p w w.stage i i)
 
-    by_stage : (p : Page) (w : Row) (m : Option Message) (v : Verdict) → Q w.stage → Q
-        (judged_by f need r p w m v).row.stage
+    by_stage : (p : Page) (w : Row) (m : Option Message) (v : Verdict) → Q w.stage →
+        Q (judged_by f need r p w m v).row.stage
     by_stage p w m Stays i = i
     by_stage p w m Records i = again_stage p w m i
     by_stage p w m Installs i = carried_stage r p w (posts_of m None) Installs i
@@ -119,8 +120,8 @@ module _ (Q : Stage → Type 0) (k : Kept Q) where
     pub judged_stage : (p : Page) (w : Row) (m : Option Message) → Q w.stage → Q (judged f need r p w m).row.stage
     judged_stage p w m i = by_stage p w m (verdict_of f need r p w) i
 
-    pub following_stage : (p : Page) (w : Row) (h : Head) (x : Hearing) → Q w.stage → Q
-        (following f need r p w h x).row.stage
+    pub following_stage : (p : Page) (w : Row) (h : Head) (x : Hearing) → Q w.stage →
+        Q (following f need r p w h x).row.stage
     following_stage p w h Heard i = judged_stage p w None i
     following_stage p w h Answered i = judged_stage p w (Some (report_message r h p)) i
     following_stage p w h Outdone i = k.idle
@@ -195,8 +196,8 @@ module _ (f : ℕ → ℕ → Bool) (need : Need) (r : ℕ) where
         recorded_only = λ x i. entry_message r p w x w.stage i;
       }
 
-  pub carried_adds : (p : Page) (w : Row) (m : Option Message) (v : Verdict) → Adds m
-      (carried_out r p w (posts_of m None) v).answer.posts
+  pub carried_adds : (p : Page) (w : Row) (m : Option Message) (v : Verdict) →
+      Adds m (carried_out r p w (posts_of m None) v).answer.posts
   carried_adds p w m v = record {
     second =
         None;

@@ -6,13 +6,16 @@ use Rattle.rounds.specs.Reports.{reported}
 use Rattle.rounds.specs.declared.report.Report.{Report}
 use Rattle.stores.specs.declared.page.Mode.TheVariants.{Reconfiguration}
 use Rattle.stores.specs.declared.page.Page.{Page}
+use Rattle.stores.specs.declared.view.Head.{Head}
 use Rattle.stores.specs.declared.view.Number.{Number}
 use Rattle.stores.specs.declared.view.Recorded.{Recorded as RecordedView}
 use Rattle.stores.specs.declared.view.View.{View}
+use Rattle.rows.specs.Rows.{head_of}
 use Rattle.rows.specs.declared.message.Body.{Body}
 use Rattle.rows.specs.declared.message.Body.TheVariants.{State, Abort, Join, Recorded, Report as Reports}
 use Rattle.rows.specs.declared.row.Recorders.{Recorders}
 use Rattle.rows.specs.declared.row.Reference.{Reference}
+use Rattle.rows.specs.declared.row.Row.{Row}
 use Rattle.rows.specs.declared.row.Stage.{Stage}
 use Rattle.rows.specs.declared.row.Stage.TheVariants.{Gathering, Confirming, Applying, Entering, Round}
 
@@ -31,6 +34,15 @@ kind_of Abort = abort
 kind_of Join = join
 kind_of (Recorded n part) = recorded
 kind_of (Reports m) = report
+
+-- ---- the open head
+-- this head is open
+abbrev pub IsOpen : Head → Row → Type 0
+IsOpen h w = head_of w.stage ≡ Some h
+
+-- no head is open
+abbrev pub IsIdle : Row → Type 0
+IsIdle w = head_of w.stage ≡ None
 
 -- ---- what is heard
 -- one above the component view's number
@@ -81,7 +93,7 @@ WasHeard (Entering h e) recorded q = HasRecorded e.recorders q
 WasHeard (Round h rs) report q = (m : Report) × (reported rs q ≡ Some m)
 WasHeard stage kind q = ⊥
 
--- what a stage before it heard, and it does not: States once the head is recorded, Joins once there is a reference
+-- what is no longer heard under the head: States once it is recorded, Joins once there is a reference
 abbrev pub IsPast : Stage → Kind → Type 0
 IsPast (Confirming h g) state = Unit {0}
 IsPast (Applying h a) join = (x : Reference) × (a.reference ≡ Some x)
@@ -89,6 +101,6 @@ IsPast (Entering h e) state = Unit {0}
 IsPast (Entering h e) join = Unit {0}
 IsPast stage kind = ⊥
 
--- heard under the head, or past hearing
+-- heard under the head, or no longer heard
 abbrev pub IsHeard : Stage → Kind → ℕ → Type 0
 IsHeard stage kind q = WasHeard stage kind q ⊎ IsPast stage kind

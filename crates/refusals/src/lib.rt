@@ -1,11 +1,12 @@
-// When the manager's calls are refused, and that nothing is heard twice under a head. There is nothing to run here; each function
-// carries a theorem about the calls as they are defined.
+// When the manager's calls are refused, and that nothing is heard twice under a head. There is nothing to run here;
+// each function carries a theorem about the calls as they are defined.
 #![tactic(auto)]
 
 ghost use Rattle.refusals.specs.Order.{RefusalsInOrder, AcceptedOtherwise};
 ghost use Rattle.refusals.specs.Once.{DeliveriesNoted, HeardStays, HeardIsRefused, ReportsAnswered, OnceUnderHead};
 
-// A call is refused with a number exactly where that number's condition holds and that of no earlier one in the call's order.
+// A call is refused with a number exactly where that number's condition holds and that of no earlier one in the
+// call's order.
 pub fn refusals_come_in_order()
     ensures { RefusalsInOrder }
 {}
