@@ -1,24 +1,26 @@
-// The state of a session: the floor, its post, the views installed on it, and how many calls were accepted and refused.
-ghost use Rattle.std.specs.Prelude.{◌≡◌, ◌<◌, replicate, vec_len, vec_capacity, MatchResult, OnOk};
+// The state of a program: the floor with its post, the views installed on it, and how many calls were accepted and refused.
+ghost use Rattle.std.specs.Prelude.{◌≡◌, ◌<◌, [], false, replicate, vec_len, vec_capacity, MatchResult, OnOk};
 ghost use Rattle.stores.specs.Kept.{fresh};
+ghost use Rattle.board.specs.Plays.{floor_of, messages_of, is_founded};
 
-use floor::Floor;
+use super::play::Play;
 use manager::{Answer, Need};
 use quorum::{ChosenRule, Failure, QuorumRule, Replica, WeightRule};
 use rounds::End;
 use rows::{Message, Posts};
 use runs::Call;
 use script::{Command, parse};
+use std::alloc::Global;
 use std::fmt::Display;
-use std::io;
 use std::io::Write;
-use stores::{HeldPages, View};
+use std::{io, mem};
+use stores::View;
 
 #[derive(Drop)]
 pub struct Hall {
+    alloc: Global,
     rule: ChosenRule,
-    floor: Floor<ChosenRule, HeldPages>,
-    post: Vec<Message>,
+    play: Play,
     // Distinct views, in the order in which they were first installed on this floor.
     installed: Vec<View>,
     accepted: u64,
@@ -29,9 +31,9 @@ impl Hall {
     // A program begins with a floor of the count rule.
     pub fn new(rt: HostRuntime) -> Hall {
         Hall {
+            alloc: rt.alloc(),
             rule: ChosenRule::Count,
-            floor: Floor::new(ChosenRule::Count, HeldPages::new()),
-            post: Vec::new(rt.alloc()),
+            play: Play::new(ChosenRule::Count, rt.alloc()),
             installed: Vec::new(rt.alloc()),
             accepted: 0,
             refused: 0,
@@ -77,17 +79,19 @@ impl Hall {
     // A new floor has fresh pages, an empty post and no installed view.
     fn open(&mut self, rule: ChosenRule)
         ensures rule { self.new.rule ≡ rule }
-        ensures pages { self.new.floor.store.pages ≡ replicate 16 fresh }
+        ensures before { is_founded self.new.play ≡ false }
+        ensures pages { (floor_of self.new.play).store.pages ≡ replicate 16 fresh }
+        ensures post { messages_of self.new.play ≡ [] }
+        ensures installed { self.new.installed.items ≡ [] }
     {
         self.rule = rule;
-        self.floor = Floor::new(rule, HeldPages::new());
-        self.post.clear();
+        self.play = Play::new(rule, self.alloc);
         self.installed.clear();
     }
 
     // A new floor with the weight rule; the old floor stays where a weight is zero.
     fn weigh(&mut self, weights: [u8; 16]) -> Result<(), Failure>
-        ensures { MatchResult result (λ _. self.new.floor.store.pages ≡ replicate 16 fresh) (λ _. self.new ≡ self.old) }
+        ensures { MatchResult result (λ _. (floor_of self.new.play).store.pages ≡ replicate 16 fresh) (λ _. self.new ≡ self.old) }
     {
         self.open(ChosenRule::Weight(WeightRule::new(weights)?));
         Ok(())
@@ -96,7 +100,10 @@ impl Hall {
     // The first view is installed by founding.
     fn found(&mut self, view: View, need: Need) -> Result<(), Failure> {
         self.make_room()?;
-        self.floor.found(&mut self.post, view, need)?;
+        let new = Play::new(self.rule, self.alloc);
+        let (play, founded) = mem::replace(&mut self.play, new).found(view, need);
+        self.play = play;
+        founded?;
         self.note_installed(view);
         Ok(())
     }
@@ -110,7 +117,7 @@ impl Hall {
     }
 
     fn component(&self, replica: u8) -> Option<View> {
-        self.floor.page(replica)?.component
+        self.play.floor().page(replica)?.component
     }
 
     // A view was installed at the call's replica if its page has come to hold another one.
@@ -118,7 +125,7 @@ impl Hall {
         self.make_room()?;
         let replica = call.replica();
         let before = self.component(replica);
-        let answer = self.floor.apply(&mut self.post, call)?;
+        let answer = self.play.call(call)?;
         if let Some(view) = self.component(replica)
             && before != Some(view)
         {
@@ -147,7 +154,7 @@ impl Hall {
     }
 
     fn make_and_tell<W: Write>(&mut self, call: Call, reply: Reply<W>) -> io::Result<()> {
-        let first = self.post.len();
+        let first = self.play.post().len();
         match self.make(call) {
             Ok(answer) => {
                 self.accepted = self.accepted.saturating_add(1);
@@ -180,7 +187,7 @@ impl Hall {
         writeln!(
             out,
             "  post {}, calls {}, accepted {}, refused {}",
-            self.post.len(),
+            self.play.post().len(),
             self.accepted.saturating_add(self.refused),
             self.accepted,
             self.refused
@@ -189,8 +196,8 @@ impl Hall {
 
     // A replica's row and page.
     fn account_of<W: Write>(&self, replica: u8, out: &mut W) -> io::Result<()> {
-        if let Some(row) = self.floor.row(replica)
-            && let Some(page) = self.floor.page(replica)
+        if let Some(row) = self.play.floor().row(replica)
+            && let Some(page) = self.play.floor().page(replica)
         {
             let power = if row.up { "up" } else { "down" };
             writeln!(

@@ -2,6 +2,7 @@
 #![tactic(auto)]
 
 mod hall;
+mod play;
 
 use hall::Hall;
 use std::io;
