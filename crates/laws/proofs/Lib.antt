@@ -3,9 +3,14 @@ pub mod Pages
 pub mod Rows
 pub mod Settled
 pub mod Judged
+pub mod Courses
 pub mod Recording
 pub mod Hearing
 pub mod TakingUp
+pub mod Going
 pub mod Losses
 pub mod Calls
+pub mod Views
+pub mod Closed
+pub mod Words
 pub mod Standing

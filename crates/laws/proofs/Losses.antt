@@ -1,5 +1,5 @@
 -- A loss posts nothing where the row did not stand to be recorded: it takes away and adds nothing that was heard. Assumes nothing.
-use Rattle.std.proofs.Common.{◌≡◌, ℕ, ◌≤◌, ◌≢◌, Bool, true, false, if◌then◌else◌, ◌||◌, ltb, List, Some, None, Option, refl, ap, ◌∙◌, arith}
+use Rattle.std.proofs.Common.{◌≡◌, ℕ, ◌≤◌, ◌≢◌, Bool, true, false, if◌then◌else◌, ◌||◌, ltb, List, Some, None, Ok, Option, refl, ap, ◌∙◌, subst, arith}
 use Rattle.std.proofs.lemmas.Bool.{cond_both, ltb-false, le-ltb}
 use Rattle.quorum.proofs.Sets.{has_either}
 use Rattle.quorum.specs.Below.{within}
@@ -18,9 +18,10 @@ use Rattle.rows.specs.declared.row.Stage.TheVariants.{Idle, Gathering, Confirmin
 use Rattle.stores.specs.declared.page.Page.{Page}
 use Rattle.stores.specs.declared.view.Head.{Head}
 use Rattle.stores.specs.declared.view.View.{View}
+use Rattle.manager.proofs.Accepted.{accepted}
 use Rattle.manager.proofs.Posted.{carried_posts}
-use Rattle.manager.specs.Calls.{losing}
-use Rattle.manager.specs.Effects.{judged_by, judged}
+use Rattle.manager.specs.Calls.{losing, loss_refusal, lost_at}
+use Rattle.manager.specs.Effects.{Effect, judged_by, judged}
 use Rattle.manager.specs.Verdicts.{need_of, unheard, nobody, gathering_verdict, carrying_verdict, confirming_verdict, sources_of, possible_senders, asked, need_met, entering_verdict, heard_of, round_end, round_verdict, with_component, stage_verdict, verdict_of}
 use Rattle.manager.specs.declared.need.Need.{Need}
 use Rattle.manager.specs.declared.verdict.Verdict.{Verdict}
@@ -108,5 +109,12 @@ unrecorded_posts f need r p w Closes n = refl
 unrecorded_posts f need r p w Forgets n = refl
 unrecorded_posts f need r p w (Ends o v) n = carried_posts r p w Nothing (Ends o v)
 
-pub loss_posts : (f : ℕ → ℕ → Bool) (need : Need) (r : ℕ) (p : Page) (w : Row) (q : ℕ) → verdict_of f need r p w ≢ Records → (judged f need r p (losing w q) None).answer.posts ≡ Nothing
+loss_posts : (f : ℕ → ℕ → Bool) (need : Need) (r : ℕ) (p : Page) (w : Row) (q : ℕ) → verdict_of f need r p w ≢ Records → (judged f need r p (losing w q) None).answer.posts ≡ Nothing
 loss_posts f need r p w q n = unrecorded_posts f need r p (losing w q) (verdict_of f need r p (losing w q)) (λ i. n (recorded_before f need r p w q i))
+
+pub lost_posts : (f : ℕ → ℕ → Bool) (need : Need) (r : ℕ) (p : Page) (w : Row) (q : ℕ) (e : Effect) → verdict_of f need r p w ≢ Records → lost_at f need r p w q ≡ Ok e →
+    e.answer.posts ≡ Nothing
+unfolding lost_at
+lost_posts f need r p w q e n d =
+    let a = accepted (loss_refusal r p w q) (judged f need r p (losing w q) None) e d in
+    subst (λ (x : Effect). x.answer.posts ≡ Nothing) a.1 (loss_posts f need r p w q n)

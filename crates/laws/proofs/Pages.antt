@@ -16,6 +16,7 @@ use Rattle.stores.specs.declared.view.View.{View}
 use Rattle.manager.specs.Calls.{topped, started}
 use Rattle.manager.specs.Effects.{in_mode, raised, recording, component_page, spare_page}
 use Rattle.rounds.specs.Reports.{report_of}
+use Rattle.laws.specs.Laws.{NotLower, Advances}
 use Rattle.stores.proofs.Kept.{Tests}
 
 -- ---- marks raised
@@ -146,3 +147,12 @@ reported_tests r p t =
       recorded = top_fits r p.top.0 (lowest_top p.recorded).0 p.mark p.recorded t.recorded (λ s e k. lowest_fits p.recorded s e);
       follow = t.follow;
     }
+
+-- ---- nothing falls where the mark is raised
+raised_mark : (a b : Option Number) (n : ℕ) → NotLower a b → NotLower a (Some (raised b n))
+raised_mark None b n h = tt
+raised_mark (Some x) None n h = absurd h
+raised_mark (Some x) (Some y) n h = omega arith
+
+pub advances_raised : (q p : Page) (n : ℕ) → Advances q p → NotLower q.mark (Some (raised p.mark n))
+advances_raised q p n a = raised_mark q.mark p.mark n a.mark

@@ -11,6 +11,7 @@ use Rattle.quorum.specs.declared.set.ReplicaSet.{ReplicaSet}
 use Rattle.rounds.specs.declared.outcome.Outcome.{Outcome}
 use Rattle.rows.specs.Recorders.{no_recorders, recorders_with}
 use Rattle.rows.specs.Rows.{is_normal, has_next, reference_keeps, stage_keeps, empty_row}
+use Rattle.rows.specs.declared.message.Body.{Body}
 use Rattle.rows.specs.declared.message.Message.{Message}
 use Rattle.rows.specs.declared.message.Part.TheVariants.{Member, Newcomer}
 use Rattle.rows.specs.declared.message.Posts.{Posts}
@@ -38,9 +39,10 @@ use Rattle.manager.specs.declared.hearing.Hearing.TheVariants.{Heard, Answered, 
 use Rattle.manager.specs.declared.need.Need.{Need}
 use Rattle.manager.specs.declared.verdict.Verdict.{Verdict}
 use Rattle.manager.specs.declared.verdict.Verdict.TheVariants.{Stays, Records, Installs, Reconfigures, Closes, Forgets, Ends}
+use Rattle.laws.specs.Known.{known_in, telling}
 use Rattle.laws.specs.Standing.{StandsToBeRecorded, LeavesNoneStanding, NoneLeftStanding}
 use Rattle.manager.proofs.Accepted.{accepted, announced, arrived, missed}
-use Rattle.laws.proofs.Calls.{under_same}
+use Rattle.laws.proofs.Going.{under_same}
 use Rattle.laws.proofs.Hearing.{HeardKeeps, heard_keeps}
 use Rattle.laws.proofs.Losses.{confirming_never, entering_never, round_never}
 use Rattle.rows.proofs.Facts.{row_parts, gathering_from, applying_from}
@@ -247,12 +249,22 @@ module _ (f : ℕ → ℕ → Bool) (need : Need) (r : ℕ) where
   follows_unrecorded p w h n Outdone = idle_unrecorded (spare_page p) (spare_row w) refl
   follows_unrecorded p w h n Aborted = idle_unrecorded p _ refl
 
+  -- the stage that is left keeps the rules
+  abbrev StageKept : Page → Row → Result (Turn Stage) Reason → Type 0
+  StageKept p w (Err reason) = Unit {0}
+  StageKept p w (Ok t) = stage_keeps r p w.up w.lost t.left ≡ true
+
+  kept_stage : (p : Page) (w : Row) (q : ℕ) (b : Body) (x : Result (Turn Stage) Reason) →
+      HeardKeeps r p (head_of w.stage) w.up w.lost (telling (known_in w) q b) b w.stage x → StageKept p w x
+  kept_stage p w q b (Err reason) k = tt
+  kept_stage p w q b (Ok t) k = k.stage
+
   heard_unrecorded : (p : Page) (w : Row) (h : Head) (x : Result (Turn Stage) Reason) →
-      HeardKeeps r p (head_of w.stage) w.up w.lost x → LeavesNoneStanding f need r (heard_or_not f need r p w h x)
+      StageKept p w x → LeavesNoneStanding f need r (heard_or_not f need r p w h x)
   heard_unrecorded p w h (Err reason) k e d = absurd (err_ok d)
   heard_unrecorded p w h (Ok t) k e d =
       subst Unrecorded (ok_inj d)
-      (follows_unrecorded p (in_stage t.left w) h (numbered p w.up w.lost t.left k.stage) t.hearing)
+      (follows_unrecorded p (in_stage t.left w) h (numbered p w.up w.lost t.left k) t.hearing)
 
   delivered_so : (p : Page) (w : Row) (m : Message) (o : Option Fault) → delivery_refusal r p w m ≡ o →
       LeavesNoneStanding f need r (delivered_to f need r p w m o)
@@ -260,7 +272,8 @@ module _ (f : ℕ → ℕ → Bool) (need : Need) (r : ℕ) where
   delivered_so p w m None i e d =
       let a = arrived r p w m i in
       heard_unrecorded p w m.head (hears p w m.sender m.body)
-      (heard_keeps r p w m.sender m.body (tests_of r p a.offer.page) (row_parts r p w a.offer.row).1 (under_same m (head_of w.stage) a.message a.head)) e d
+      (kept_stage p w m.sender m.body (hears p w m.sender m.body)
+      (heard_keeps r p w m.sender m.body (tests_of r p a.offer.page) (row_parts r p w a.offer.row).1 (under_same m (head_of w.stage) a.message a.head))) e d
 
   pub delivered_unrecorded : (p : Page) (w : Row) (m : Message) → LeavesNoneStanding f need r (delivered f need r p w m)
   unfolding delivered

@@ -1,2 +1,4 @@
+pub mod Known
+pub mod Evidence
 pub mod Laws
 pub mod Standing

@@ -1,4 +1,4 @@
-use Rattle.laws.proofs.Calls.{refusals_leave}
+use Rattle.laws.proofs.Words.{refusals_leave}
 use Rattle.laws.proofs.refusals_change_nothing.Goals as goal
 
 pub returns : goal.returns
