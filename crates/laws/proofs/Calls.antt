@@ -24,7 +24,7 @@ use Rattle.manager.specs.declared.verdict.Verdict.{Verdict}
 use Rattle.manager.specs.declared.verdict.Verdict.TheVariants.{Stays, Records, Installs, Reconfigures, Closes, Forgets, Ends}
 use Rattle.laws.specs.Known.{Known, counted}
 use Rattle.laws.specs.Laws.{PostsKeep, Keeps, Advances, CallsKeep, CallsAdvance}
-pub use Rattle.laws.proofs.Going.{stopped_so}
+pub use Rattle.laws.proofs.Going.{started_so, stopped_so}
 pub use Rattle.laws.proofs.Losses.{lost_posts}
 use Rattle.laws.proofs.Going.{Turned, call_goes}
 use Rattle.laws.proofs.Courses.{Says, Stands, Course}

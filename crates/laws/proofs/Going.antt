@@ -88,7 +88,7 @@ pub stopped_so : (r : ℕ) (p : Page) (w : Row) (e : Effect) → stopped_at r p 
 unfolding stopped_at
 stopped_so r p w e d = let a = accepted (call_refusal r p w) (effect p (empty_row false) Nothing) e d in ((called r p w a.0).0, a.1)
 
-started_so : (r : ℕ) (p : Page) (w : Row) (e : Effect) → started_at r p w ≡ Ok e → Offered r p w × (effect (in_mode (started p.mode) p) (empty_row true) Nothing ≡ e)
+pub started_so : (r : ℕ) (p : Page) (w : Row) (e : Effect) → started_at r p w ≡ Ok e → Offered r p w × (effect (in_mode (started p.mode) p) (empty_row true) Nothing ≡ e)
 unfolding started_at
 started_so r p w e d = let a = accepted (start_refusal r p w) (effect (in_mode (started p.mode) p) (empty_row true) Nothing) e d in (startable r p w a.0, a.1)
 
