@@ -9,7 +9,7 @@ use Rattle.manager.specs.Effects.{Effect}
 use Rattle.manager.specs.declared.answer.Answer.{Answer}
 use Rattle.rows.specs.declared.message.Posts.{Posts}
 use Rattle.rows.specs.declared.message.Posts.TheVariants.{Nothing, One, Two}
-use Rattle.runs.proofs.Ruled.{ruled_accepted, ruled_room}
+use Rattle.runs.proofs.Orderly.{at_most_two, next_has_room}
 use Rattle.runs.proofs.Runs.{run_step, end_step}
 use Rattle.runs.specs.Runs.{Taken, Run, end_of, Founded}
 use Rattle.runs.specs.Steps.{Step, CutOff, Stopped}
@@ -21,16 +21,10 @@ use Rattle.runs.specs.declared.work.Work.TheVariants.{View as Views, Deliver, Lo
 use Rattle.stores.specs.declared.view.View.{View}
 use Rattle.floor.specs.Memory.{LacksRoomFor, LacksRoom, EachLacksRoom, AllFindMemory}
 
--- no call posts more than two messages
-two_at_most : (posts : Posts) → length (listed posts) ≤ 2
-two_at_most Nothing = omega arith
-two_at_most (One m) = omega arith
-two_at_most (Two m n) = omega arith
-
 -- who lacks room for what a call posts has fewer than two free places
 pub lacks_two : (f : ℕ → ℕ → Bool) (w : World) (call : Call) (capacity : ℕ) → LacksRoom f w call capacity →
     capacity < length w.post + 2
-lacks_two f w (Whole k) capacity (e, rules, lacks) = omega (arith, two_at_most e.answer.posts)
+lacks_two f w (Whole k) capacity (e, rules, lacks) = omega (arith, at_most_two e.answer.posts)
 lacks_two f w (Cut k n) capacity a = absurd a
 lacks_two f w (Stop r) capacity a = absurd a
 
@@ -43,35 +37,13 @@ pub cut_finds : (f : ℕ → ℕ → Bool) (w : World) (k : Work) (a : Result An
     a ≢ Err NoMemory
 cut_finds f w k a v s none = subst (λ (x : Result Answer Failure). CutOff f w k x v) none s
 
--- an effect that posts nothing does not post something
-silent_some : (e : Effect) → e.answer.posts ≡ Nothing → PostsSome e → ⊥
-silent_some e silent some = let n = ap (λ (x : Posts). length (listed x)) silent in omega arith
-
--- an accepted view or delivery finds at most 65,534 messages in the post
-few_posted : (n : ℕ) → nat_le 65535 n ≡ false → n ≤ 65534
-few_posted n e = grind (arith, nat_tests)
-
 module _ (f : ℕ → ℕ → Bool) (first : View) (start : World) (founded : Founded first start) where
-  -- a loss posts nothing in a run from a founding
-  loss_silent : (before : List Taken) (now : World) → Run f start before → end_of start before ≡ now →
-      (r q : ℕ) (e : Effect) → ruled f now (Loss r q) ≡ Ok e → e.answer.posts ≡ Nothing
-  loss_silent before now run ends r q e rules =
-      lost_posts f now.need r _ _ q e (ruled_accepted f now (Loss r q) e rules).1
-
   module _ (capacity : ℕ) (room : 65536 ≤ capacity) where
     -- a call that posts something has room for it
     has_room : (before : List Taken) (now : World) → Run f start before → end_of start before ≡ now →
         (k : Work) (e : Effect) → ruled f now k ≡ Ok e → PostsSome e → LacksRoomFor f now k capacity → ⊥
-    has_room before now run ends (Views r h) e rules some (d, allows, lacks) =
-        let few = few_posted (length now.post) (ruled_room f now (Views r h) e rules) in
-        omega (arith, few, two_at_most d.answer.posts, room)
-    has_room before now run ends (Deliver r i) e rules some (d, allows, lacks) =
-        let few = few_posted (length now.post) (ruled_room f now (Deliver r i) e rules) in
-        omega (arith, few, two_at_most d.answer.posts, room)
-    has_room before now run ends (Loss r q) e rules some lacking =
-        silent_some e (loss_silent before now run ends r q e rules) some
-    has_room before now run ends (Start r) e rules some lacking =
-        silent_some e (posts_few.starts r _ _ e (ruled_accepted f now (Start r) e rules).1) some
+    has_room before now run ends k e rules some (d, allows, lacks) =
+        omega (arith, next_has_room f first start before founded run now ends k e rules some, at_most_two d.answer.posts, room)
 
     -- so it finds memory
     finds : (before : List Taken) (now : World) → Run f start before → end_of start before ≡ now →

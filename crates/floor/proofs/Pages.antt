@@ -16,11 +16,6 @@ use Rattle.runs.specs.Founding.{is_fresh, nameless, founding_refusal, founding_p
 use Rattle.quorum.specs.Faults.{refused_if, allowed}
 use Rattle.quorum.proofs.Refused.{neither, not_refused, was_allowed}
 
--- a member's page keeps the rules
-pub founding_keeps : (v : View) (r : ℕ) → has v.set.0 r ≡ true → v.number.0 ≤ 1000000000 → keeps_rules r (founding_page v) ≡ true
-unfolding keeps_rules
-founding_keeps v r h l = grind (arith, nat_tests)
-
 -- a member's page is written
 pub founded_write : (v : View) (xs ys : List Page) (n : ℕ) → length ys ≡ 16 → n < 16 → has v.set.0 n ≡ true → FoundedPages v xs n ys →
     FoundedPages v xs (n + 1) (set ys n (founding_page v))

@@ -2,6 +2,7 @@
 use Rattle.std.specs.Prelude.{◌≡◌, ℕ, ◌≤◌, Bool, List, ◌++◌, map}
 use Rattle.manager.specs.declared.need.Need.{Need}
 use Rattle.runs.specs.Findings.{Findings}
+use Rattle.runs.specs.Orderly.{OrderlyRun}
 use Rattle.runs.specs.Runs.{Taken, Run, end_of, Founded}
 use Rattle.runs.specs.World.{World}
 use Rattle.runs.specs.declared.work.Call.{Call}
@@ -25,17 +26,19 @@ module _ {S : Type 0} (pages : S → List Page) (places : S → ℕ) (leaves : S
     pub memory : EachLacksRoom f capacity w takens
     pub ends : end_of w takens ≡ v
 
-  -- Whatever run led to w from a founding, that run and these calls have the three findings; and with room for 65,536 messages
-  -- no call of these finds no memory.
+  -- Whatever run led to w from a founding, that run and these calls have the three findings, and their worlds are in order; and
+  -- with room for 65,536 messages no call of these finds no memory.
   pub record Found (capacity : ℕ) (s : S) (w : World) (t : S) (v : World) (calls : List Call) : Type 0 where
     pub ran : Ran capacity s w t v calls
     pub findings : (first : View) (start : World) (before : List Taken) → Founded first start → Run f start before →
         end_of start before ≡ w → Findings f first start (before ++ ran.takens)
+    pub orderly : (first : View) (start : World) (before : List Taken) → Founded first start → Run f start before →
+        end_of start before ≡ w → OrderlyRun f start (before ++ ran.takens)
     pub memory : (first : View) (start : World) (before : List Taken) → Founded first start → Run f start before →
         end_of start before ≡ w → 65536 ≤ capacity → AllFindMemory ran.takens
 
-  -- A founding with this first view and this need, on the store s, and the calls after it: the three findings of that run; and
-  -- with room for 65,536 messages no call finds no memory.
+  -- A founding with this first view and this need, on the store s, and the calls after it: the three findings of that run, whose
+  -- worlds are in order; and with room for 65,536 messages no call finds no memory.
   pub record Evening (capacity : ℕ) (first : View) (need : Need) (s t : S) (v : World) (calls : List Call) : Type 0 where
     pub founded : World
     pub begun : S
@@ -46,4 +49,5 @@ module _ {S : Type 0} (pages : S → List Page) (places : S → ℕ) (leaves : S
     pub needs : founded.need ≡ need
     pub ran : Ran capacity begun founded t v calls
     pub findings : Findings f first founded ran.takens
+    pub orderly : OrderlyRun f founded ran.takens
     pub memory : 65536 ≤ capacity → AllFindMemory ran.takens

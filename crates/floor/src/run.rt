@@ -27,8 +27,8 @@ impl<R: QuorumRule + Copy, S: Breakable> Floor<R, S> {
     }
 
     // Makes the calls, one after another, whatever each answers. Whatever run led here from an accepted
-    // founding, that run and these calls have the three findings, and with room for 65,536 messages no
-    // call finds no memory.
+    // founding, that run and these calls have the three findings and keep every world in order, and with
+    // room for 65,536 messages no call finds no memory.
     pub fn run(&mut self, post: &mut Vec<Message>, calls: &[Call])
         ensures found { Found S.Store.pages S.Store.places S.Breakable.leaves
             (R.QuorumRule.carries self.old.rule) (vec_capacity post.old)
@@ -40,8 +40,8 @@ impl<R: QuorumRule + Copy, S: Breakable> Floor<R, S> {
         self.make_all(post, calls);
     }
 
-    // Founds, and makes the calls: the three findings of that evening. With room for 65,536 messages no
-    // call finds no memory.
+    // Founds, and makes the calls: the three findings of that evening, and every world of it in order.
+    // With room for 65,536 messages no call finds no memory.
     pub fn evening(
         &mut self,
         post: &mut Vec<Message>,

@@ -1,5 +1,5 @@
 use Rattle.std.proofs.Common.{rules}
-use Rattle.floor.proofs.Pages.{founding_keeps}
+use Rattle.runs.proofs.Founded.{founding_keeps}
 use Rattle.floor.proofs.founding.write_member.Goals as goal
 
 -- a member's page keeps the rules

@@ -16,5 +16,6 @@ returns-clause-evening g c =
       needs = told.founded.need_is;
       ran = found.ran;
       findings = found.findings c.args.first _ [] told.begins tt refl;
+      orderly = found.orderly c.args.first _ [] told.begins tt refl;
       memory = found.memory c.args.first _ [] told.begins tt refl;
     }

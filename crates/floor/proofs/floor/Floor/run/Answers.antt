@@ -1,5 +1,6 @@
 use Rattle.std.proofs.Common.{sym, subst}
 use Rattle.runs.proofs.Findings.{runs_on_safe}
+use Rattle.runs.proofs.Orderly.{runs_on_orderly}
 use Rattle.runs.specs.Runs.{Run}
 use Rattle.runs.specs.World.{World}
 use Rattle.floor.proofs.Memory.{all_find}
@@ -14,6 +15,9 @@ returns-clause-found g c =
       ran = ran;
       findings = λ first start before founded run ends.
           runs_on_safe (g.R.QuorumRule.carries rule) (met.local rule) (met.whole rule) (met.grows rule) (met.meets rule) first start before ran.takens founded run
+          (subst (λ (x : World). Run (g.R.QuorumRule.carries rule) x ran.takens) (sym ends) ran.run);
+      orderly = λ first start before founded run ends.
+          runs_on_orderly (g.R.QuorumRule.carries rule) first start before ran.takens founded run
           (subst (λ (x : World). Run (g.R.QuorumRule.carries rule) x ran.takens) (sym ends) ran.run);
       memory = λ first start before founded run ends room.
           all_find (g.R.QuorumRule.carries rule) first start founded _ room before _ ran.takens run ends ran.run ran.memory;
