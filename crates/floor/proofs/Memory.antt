@@ -1,23 +1,18 @@
 -- With room for 65,536 messages no call of a run from a founding finds no memory. Assumes nothing.
-use Rattle.std.proofs.Common.{◌≡◌, ℕ, ◌+◌, ◌<◌, ◌≤◌, ◌≢◌, Bool, false, List, [], ◌∷◌, ◌++◌, length, Ok, Err, Result, nat_le, refl, subst, ap, arith}
-use Rattle.std.proofs.lemmas.Bool.Decides.{nat_tests}
+use Rattle.std.proofs.Common.{◌≡◌, ℕ, ◌+◌, ◌<◌, ◌≤◌, ◌≢◌, Bool, List, [], ◌∷◌, ◌++◌, length, Ok, Err, Result, subst, arith}
 use Rattle.std.proofs.lemmas.List.Elements.{All-cons, All-nil}
 use Rattle.quorum.specs.declared.fault.Failure.{Failure}
 use Rattle.quorum.specs.declared.fault.Failure.TheVariants.{NoMemory}
-use Rattle.laws.proofs.Calls.{lost_posts, posts_few}
 use Rattle.manager.specs.Effects.{Effect}
 use Rattle.manager.specs.declared.answer.Answer.{Answer}
-use Rattle.rows.specs.declared.message.Posts.{Posts}
-use Rattle.rows.specs.declared.message.Posts.TheVariants.{Nothing, One, Two}
 use Rattle.runs.proofs.Orderly.{at_most_two, next_has_room}
 use Rattle.runs.proofs.Runs.{run_step, end_step}
 use Rattle.runs.specs.Runs.{Taken, Run, end_of, Founded}
 use Rattle.runs.specs.Steps.{Step, CutOff, Stopped}
-use Rattle.runs.specs.World.{World, ruled, listed, full, PostsSome}
+use Rattle.runs.specs.World.{World, ruled, PostsSome}
 use Rattle.runs.specs.declared.work.Call.{Call}
 use Rattle.runs.specs.declared.work.Call.TheVariants.{Whole, Cut, Stop}
 use Rattle.runs.specs.declared.work.Work.{Work}
-use Rattle.runs.specs.declared.work.Work.TheVariants.{View as Views, Deliver, Loss, Start}
 use Rattle.stores.specs.declared.view.View.{View}
 use Rattle.floor.specs.Memory.{LacksRoomFor, LacksRoom, EachLacksRoom, AllFindMemory}
 

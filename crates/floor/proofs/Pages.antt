@@ -1,5 +1,5 @@
 -- Sixteen pages, one of them replaced; the pages of a founded floor. Assumes nothing.
-use Rattle.std.proofs.Common.{◌≡◌, ℕ, ◌+◌, ◌<◌, ◌≤◌, true, false, if◌then◌else◌, not, ◌||◌, ◌==◌, nat_lt, List, length, set, is_some, Some, None, Ok, Option, refl, ap, ◌∙◌, ⊎_elim, arith}
+use Rattle.std.proofs.Common.{◌≡◌, ℕ, ◌+◌, ◌<◌, true, false, if◌then◌else◌, not, ◌||◌, ◌==◌, nat_lt, List, length, set, is_some, Some, None, Ok, Option, refl, ap, ◌∙◌, ⊎_elim, arith}
 use Rattle.std.proofs.lemmas.List.{get_or-set_same, get_or-set_other}
 use Rattle.std.proofs.lemmas.Bool.{cases_eq, and_parts, or_parts, eqb-true, false≢true, not-false}
 use Rattle.std.proofs.lemmas.Bool.Decides.{nat_tests}
@@ -9,7 +9,6 @@ use Rattle.quorum.specs.Members.{has}
 use Rattle.quorum.specs.declared.fault.Reason.TheVariants.{BadFounding, NotFresh}
 use Rattle.rows.proofs.Facts.{mode_waiting}
 use Rattle.stores.specs.Kept.{fresh, page_at}
-use Rattle.stores.specs.Rules.{keeps_rules}
 use Rattle.stores.specs.declared.page.Page.{Page}
 use Rattle.stores.specs.declared.view.View.{View}
 use Rattle.runs.specs.Founding.{is_fresh, nameless, founding_refusal, founding_page, FoundedPages}

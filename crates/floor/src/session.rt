@@ -74,7 +74,8 @@ impl<R: QuorumRule + Copy, S: Breakable + Drop> Session<R, S> {
         ensures step { Step (R.QuorumRule.carries self.old.floor.rule)
             (world S.Store.pages S.Store.places self.old.floor self.old.post.items) call result
             (world S.Store.pages S.Store.places self.new.floor self.new.post.items) }
-        ensures cut { CutLeaves S.Breakable.leaves (R.QuorumRule.carries self.old.floor.rule)
+        ensures cut { CutLeaves (S.Breakable.leaves self.old.floor.store)
+            (R.QuorumRule.carries self.old.floor.rule)
             (world S.Store.pages S.Store.places self.old.floor self.old.post.items) call result
             (world S.Store.pages S.Store.places self.new.floor self.new.post.items) }
         ensures rule { self.new.floor.rule ≡ self.old.floor.rule }

@@ -1,4 +1,4 @@
-use Rattle.std.proofs.Common.{refl, ◌∙◌, vec_capacity, arith}
+use Rattle.std.proofs.Common.{refl, ◌∙◌, arith}
 use Rattle.std.proofs.lemmas.List.{take_all}
 use Rattle.floor.proofs.Making.{ran_more, lacks_first}
 use Rattle.floor.proofs.floor.Floor.make_all.Goals as goal
