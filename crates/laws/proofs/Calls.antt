@@ -47,7 +47,8 @@ posts_keep r h (Single m) s = s.keeps
 posts_keep r h (Two m n) s = (s.0.keeps, s.1.keeps)
 
 -- ---- what each verdict leaves
-module _ (r : ℕ) (q p : Page) (w : Row) (posts : Posts) (tests : Tests r p) (row : row_keeps r p w ≡ true) (advances : Advances q p) (told : PostsKeep posts) where
+module _ (r : ℕ) (q p : Page) (w : Row) (posts : Posts) (tests : Tests r p) (row : row_keeps r p w ≡ true)
+    (advances : Advances q p) (told : PostsKeep posts) where
   survivors_in : survivors_keep w.survivors p.component ≡ true
   survivors_in = (row_parts r p w row).0
 
@@ -55,24 +56,42 @@ module _ (r : ℕ) (q p : Page) (w : Row) (posts : Posts) (tests : Tests r p) (r
   stays = record { keeps = record { page = of_tests r p tests; row = row; posts = told }; advances = advances }
 
   closes : is_joining p.mode ≡ false → Kept r q (effect p (closed w) posts)
-  closes j = record { keeps = record { page = of_tests r p tests; row = closed_keeps r p w survivors_in j; posts = told }; advances = advances }
+  closes j =
+      record {
+        keeps = record { page = of_tests r p tests; row = closed_keeps r p w survivors_in j; posts = told };
+        advances = advances;
+      }
 
   installs : (o : Option Recorded) → p.recorded ≡ o → Kept r q (installing p w posts o)
   installs None e = closes (joining_recorded r p e tests)
   installs (Some s) e = record {
-    keeps = record { page = of_tests r _ (installed_tests r p s e tests); row = component_keeps r _ w s.view refl refl; posts = told };
+    keeps = record {
+      page = of_tests r _ (installed_tests r p s e tests);
+      row = component_keeps r _ w s.view refl refl;
+      posts = told;
+    };
     advances = record { top = advances.top; mark = advances.mark };
   }
 
-  reconfigures : (is_some p.component || is_some p.recorded) ≡ true → Kept r q (effect (in_mode Reconfiguration p) (closed w) posts)
+  reconfigures : (is_some p.component || is_some p.recorded) ≡ true →
+      Kept r q (effect (in_mode Reconfiguration p) (closed w) posts)
   reconfigures x = record {
-    keeps = record { page = of_tests r _ (reconfigured_tests r p x tests); row = closed_keeps r (in_mode Reconfiguration p) w survivors_in refl; posts = told };
+    keeps = record {
+      page = of_tests r _ (reconfigured_tests r p x tests);
+      row = closed_keeps r
+          (in_mode Reconfiguration p) w survivors_in refl;
+      posts = told;
+    };
     advances = record { top = advances.top; mark = advances.mark };
   }
 
   forgets : is_joining p.mode ≡ true → Kept r q (carried_out r p w posts Forgets)
   forgets j = record {
-    keeps = record { page = of_tests r _ (forgotten_tests r p j tests); row = closed_keeps r _ w survivors_in refl; posts = told };
+    keeps = record {
+      page = of_tests r _ (forgotten_tests r p j tests);
+      row = closed_keeps r _ w survivors_in refl;
+      posts = told;
+    };
     advances = record { top = advances.top; mark = advances.mark };
   }
 
@@ -82,26 +101,40 @@ module _ (r : ℕ) (q p : Page) (w : Row) (posts : Posts) (tests : Tests r p) (r
     advances = record { top = advances.top; mark = advances.mark };
   }
 
-  settles : (o : Outcome) (v : Option View) → is_joining p.mode ≡ false → Numbered v → Kept r q (settling r p w posts o v)
-  settles o None j n = record { keeps = record { page = of_tests r p tests; row = closed_keeps r p w survivors_in j; posts = told }; advances = advances }
+  settles : (o : Outcome) (v : Option View) → is_joining p.mode ≡ false → Numbered v →
+      Kept r q (settling r p w posts o v)
+  settles o None j n =
+      record {
+        keeps = record { page = of_tests r p tests; row = closed_keeps r p w survivors_in j; posts = told };
+        advances = advances;
+      }
   settles o (Some v) j n =
-      cond_both (has v.set.0 r) (ending (component_page p (Some (raised p.mark v.number.0)) v) (component_row w v) posts o (Some v))
+      cond_both (has v.set.0 r) (ending (component_page p (Some (raised p.mark v.number.0)) v) (component_row w v) posts
+      o (Some v))
       (ending (spare_page p) (spare_row w) posts o (Some v)) (Kept r q)
       (λ i. record {
-        keeps = record { page = of_tests r _ (settled_tests r p v i n tests); row = component_keeps r _ w v refl refl; posts = told };
+        keeps = record {
+          page = of_tests r _ (settled_tests r p v i n tests);
+          row = component_keeps r _ w v refl refl;
+          posts = told;
+        };
         advances = record { top = advances.top; mark = advances_raised q p v.number.0 advances };
       })
       (λ _. spares o (Some v))
 
 module _ (f : ℕ → ℕ → Bool) (need : Need) (r : ℕ) (h : Head) (k : Known) (q : Page) (In : Type 0) (x : Request) where
-  by_verdict : (posts : Posts) (p : Page) (w : Row) (v : Verdict) → Stands f need r h k q In posts p w → Fits f need r h (counted r k posts) p w.stage v → Kept r q (carried_out r p w posts v)
+  by_verdict : (posts : Posts) (p : Page) (w : Row) (v : Verdict) → Stands f need r h k q In posts p w →
+      Fits f need r h (counted r k posts) p w.stage v → Kept r q (carried_out r p w posts v)
   by_verdict posts p w Stays s i = stays r q p w posts s.page s.row s.advances (posts_keep r h posts s.says)
   by_verdict posts p w Records s i = stays r q p w posts s.page s.row s.advances (posts_keep r h posts s.says)
-  by_verdict posts p w Installs s i = installs r q p w posts s.page s.row s.advances (posts_keep r h posts s.says) p.recorded refl
-  by_verdict posts p w Reconfigures s i = reconfigures r q p w posts s.page s.row s.advances (posts_keep r h posts s.says) i.0
+  by_verdict posts p w Installs s i =
+      installs r q p w posts s.page s.row s.advances (posts_keep r h posts s.says) p.recorded refl
+  by_verdict posts p w Reconfigures s i =
+      reconfigures r q p w posts s.page s.row s.advances (posts_keep r h posts s.says) i.0
   by_verdict posts p w Closes s i = closes r q p w posts s.page s.row s.advances (posts_keep r h posts s.says) i.0
   by_verdict posts p w Forgets s i = forgets r q p w posts s.page s.row s.advances (posts_keep r h posts s.says) i.0
-  by_verdict posts p w (Ends o v) s i = settles r q p w posts s.page s.row s.advances (posts_keep r h posts s.says) o v i.0 i.1
+  by_verdict posts p w (Ends o v) s i =
+      settles r q p w posts s.page s.row s.advances (posts_keep r h posts s.says) o v i.0 i.1
 
   pub course_kept : (e : Effect) → Course f need r h k q In x e → Kept r q e
   course_kept _ (judged_so posts p w v s i) = by_verdict posts p w v s i
@@ -120,18 +153,28 @@ stopped_kept r p w x e t =
     let adv = advances_itself p in
     let next = in_mode (started p.mode) p in
     ⊎_elim
-    (λ i. subst (Kept r p) i (record { keeps = record { page = t.offer.page; row = down_keeps r p; posts = tt }; advances = adv }))
+    (λ i. subst (Kept r p) i (record {
+      keeps = record { page = t.offer.page; row = down_keeps r p; posts = tt };
+      advances = adv;
+    }))
     (λ i. subst (Kept r p) i
     (record {
-      keeps = record { page = of_tests r next (started_tests r p (tests_of r p t.offer.page)); row = up_keeps r next (started_mode p.mode); posts = tt };
+      keeps = record {
+        page = of_tests r next (started_tests r p (tests_of r p t.offer.page));
+        row = up_keeps r next
+            (started_mode p.mode);
+        posts = tt;
+      };
       advances = record { top = adv.top; mark = adv.mark };
     }))
     t.is
 
 -- ---- any call
-pub kept : (f : ℕ → ℕ → Bool) (need : Need) (r : ℕ) (p : Page) (w : Row) (x : Request) (e : Effect) → effect_of f need r p w x ≡ Ok e → Kept r p e
+pub kept : (f : ℕ → ℕ → Bool) (need : Need) (r : ℕ) (p : Page) (w : Row) (x : Request) (e : Effect) →
+    effect_of f need r p w x ≡ Ok e → Kept r p e
 kept f need r p w x e d =
-    ⊎_elim (λ g. course_kept f need r g.head _ p _ x e g.course) (λ g. stopped_kept r p w x e g) (call_goes f need r p w x e d)
+    ⊎_elim (λ g. course_kept f need r g.head _ p _ x e g.course) (λ g. stopped_kept r p w x e g)
+    (call_goes f need r p w x e d)
 
 pub calls_keep : CallsKeep
 calls_keep f need r p w x e d = (kept f need r p w x e d).keeps
@@ -140,13 +183,16 @@ pub calls_advance : CallsAdvance
 calls_advance f need r p w x e d = (kept f need r p w x e d).advances
 
 -- ---- call by call
-pub viewed_keeps : (f : ℕ → ℕ → Bool) (need : Need) (r : ℕ) (p : Page) (w : Row) (h : Head) (e : Effect) → viewed f need r p w h ≡ Ok e → Keeps r e
+pub viewed_keeps : (f : ℕ → ℕ → Bool) (need : Need) (r : ℕ) (p : Page) (w : Row) (h : Head) (e : Effect) →
+    viewed f need r p w h ≡ Ok e → Keeps r e
 viewed_keeps f need r p w h e d = calls_keep f need r p w (view h) e d
 
-pub delivered_keeps : (f : ℕ → ℕ → Bool) (need : Need) (r : ℕ) (p : Page) (w : Row) (m : Message) (e : Effect) → delivered f need r p w m ≡ Ok e → Keeps r e
+pub delivered_keeps : (f : ℕ → ℕ → Bool) (need : Need) (r : ℕ) (p : Page) (w : Row) (m : Message) (e : Effect) →
+    delivered f need r p w m ≡ Ok e → Keeps r e
 delivered_keeps f need r p w m e d = calls_keep f need r p w (delivery m) e d
 
-pub lost_keeps : (f : ℕ → ℕ → Bool) (need : Need) (r : ℕ) (p : Page) (w : Row) (q : ℕ) (e : Effect) → lost_at f need r p w q ≡ Ok e → Keeps r e
+pub lost_keeps : (f : ℕ → ℕ → Bool) (need : Need) (r : ℕ) (p : Page) (w : Row) (q : ℕ) (e : Effect) →
+    lost_at f need r p w q ≡ Ok e → Keeps r e
 lost_keeps f need r p w q e d = calls_keep f need r p w (loss q) e d
 
 -- of these two the rule and the need do not matter

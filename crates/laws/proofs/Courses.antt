@@ -1,4 +1,5 @@
--- How an accepted call under a head goes: the page and row that it comes to judge, what it posts, and what the verdict rests on. The
+-- How an accepted call under a head goes: the page and row that it comes to judge, what it posts, and what the verdict
+-- rests on. The
 -- laws follow from this by the verdict alone. Assumes nothing.
 use Rattle.std.proofs.Common.{◌≡◌, ℕ, Bool, true, ◌⊎◌, Some, None, Option, refl, subst, inl}
 use Rattle.rounds.specs.declared.outcome.Outcome.TheVariants.{Spare}
@@ -18,9 +19,9 @@ use Rattle.manager.specs.Requests.{Request}
 use Rattle.manager.specs.Requests.Request.{delivery}
 use Rattle.manager.specs.declared.need.Need.{Need}
 use Rattle.manager.specs.declared.verdict.Verdict.{Verdict}
-use Rattle.laws.specs.Evidence.{OutdoneBy, IsRound}
+use Rattle.laws.specs.Grounds.{RecordedBy, OutdoneBy, IsRound}
 use Rattle.laws.specs.Known.{Known, last_of, part_in, part_told, counted}
-use Rattle.laws.specs.Laws.{Advances, RecordedBy, IsSecond}
+use Rattle.laws.specs.Laws.{Advances, IsSecond}
 use Rattle.laws.proofs.Judged.{Agrees, Fits}
 use Rattle.stores.proofs.Kept.{Tests}
 
@@ -82,12 +83,14 @@ module _ (f : ℕ → ℕ → Bool) (need : Need) (r : ℕ) (h : Head) (k : Know
     pub known : Agrees (counted r k posts) w
     pub advances : Advances q p
     pub component : p.component ≡ q.component
-    pub recorded : ((p.recorded ≡ q.recorded) × (part_told (last_of posts) ≡ None)) ⊎ RecordedBy need r (Some h) k q.component p.recorded posts
+    pub recorded : ((p.recorded ≡ q.recorded) ×
+        (part_told (last_of posts) ≡ None)) ⊎ RecordedBy need r (Some h) k q.component p.recorded posts
     pub enters : In → IsRound w.stage
     pub leaves : IsRound w.stage → In
     pub says : Says r h posts
 
-  pub standing : (posts : Posts) (p : Page) (w : Row) → part_told (last_of posts) ≡ None → Says r h posts → Brought p w → Stands posts p w
+  pub standing : (posts : Posts) (p : Page) (w : Row) → part_told (last_of posts) ≡ None → Says r h posts →
+      Brought p w → Stands posts p w
   standing posts p w e s b = record {
     page = b.page;
     row = b.row;
@@ -103,6 +106,9 @@ module _ (f : ℕ → ℕ → Bool) (need : Need) (r : ℕ) (h : Head) (k : Know
 
   -- A call made by the request x comes to an effect.
   pub data Course (x : Request) : Effect → Type 0 where
-    judged_so : (posts : Posts) (p : Page) (w : Row) (v : Verdict) → Stands posts p w → Fits f need r h (counted r k posts) p w.stage v → Course x (carried_out r p w posts v)
-    outdone : (w : Row) → Brought q w → OutdoneBy q x → In → Course x (ending (spare_page q) (spare_row w) Nothing Spare None)
-    aborted : (w : Row) (m : Message) → Brought q w → x ≡ delivery m → m.body ≡ Abort → q.mode ≡ Waiting → (In → ⊥) → Course x (effect q (closed w) Nothing)
+    judged_so : (posts : Posts) (p : Page) (w : Row) (v : Verdict) → Stands posts p w →
+        Fits f need r h (counted r k posts) p w.stage v → Course x (carried_out r p w posts v)
+    outdone : (w : Row) → Brought q w → OutdoneBy q x → In →
+        Course x (ending (spare_page q) (spare_row w) Nothing Spare None)
+    aborted : (w : Row) (m : Message) → Brought q w → x ≡ delivery m → m.body ≡ Abort → q.mode ≡ Waiting → (In → ⊥) →
+        Course x (effect q (closed w) Nothing)

@@ -10,7 +10,5 @@ pub mod TakingUp
 pub mod Going
 pub mod Losses
 pub mod Calls
-pub mod Views
-pub mod Closed
 pub mod Words
 pub mod Standing

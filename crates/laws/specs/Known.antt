@@ -25,8 +25,8 @@ use Rattle.manager.specs.Hearing.{fixed}
 use Rattle.manager.specs.Requests.{Request}
 use Rattle.manager.specs.Requests.Request.{view, delivery, loss, start, stop}
 
--- What is known under a head: whose State, who recorded and in what part, whose Join, the reference of a newcomer, the reports of a
--- round, who is lost, and who survives.
+-- What is known under a head: whose State, who recorded and in what part, whose Join, the reference of a newcomer, the
+-- reports of a round, who is lost, and who survives.
 pub record Known : Type 0 where
   pub states : ReplicaSet
   pub recorders : Recorders
@@ -70,8 +70,8 @@ telling k q Join = record k { joins = adding k.joins q }
 telling k q (Recorded n part) = record k { recorders = recorders_with k.recorders q part }
 telling k q (Reports m) = record k { reports = slice_set k.reports q (Some m) }
 
--- Of a view just taken up nothing was heard but the replica's own word: a member's State, or its Report where a round begins. A
--- member's survivors keep only the view's members.
+-- Of a view just taken up nothing was heard but the replica's own word: a member's State, or its Report where a round
+-- begins. A member's survivors keep only the view's members.
 abbrev pub taken_up : ℕ → Page → Row → Head → Mode → Known
 taken_up r p w h Waiting = nothing_heard w.lost w.survivors
 taken_up r p w h Joining = nothing_heard w.lost w.survivors

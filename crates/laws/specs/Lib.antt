@@ -1,4 +1,4 @@
 pub mod Known
-pub mod Evidence
+pub mod Grounds
 pub mod Laws
 pub mod Standing

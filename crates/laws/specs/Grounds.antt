@@ -1,5 +1,5 @@
--- What recording, installing, closing and the end of a round rest on: what is known under the head. `f p s` says whether the part p
--- carries the set s. Assumes nothing.
+-- What recording, installing, closing and the end of a round rest on: what is known under the head. `f p s` says
+-- whether the part p carries the set s. Assumes nothing.
 use Rattle.std.specs.Prelude.{◌≡◌, ℕ, ◌+◌, ◌<◌, ◌≤◌, Bool, true, false, ◌⊎◌, Some, None, Option}
 use Rattle.quorum.specs.Below.{within}
 use Rattle.quorum.specs.Members.{size}
@@ -13,6 +13,7 @@ use Rattle.rows.specs.Rows.{under_head}
 use Rattle.rows.specs.declared.message.Body.TheVariants.{Report as Reports}
 use Rattle.rows.specs.declared.message.Message.{Message}
 use Rattle.rows.specs.declared.message.Part.{Part}
+use Rattle.rows.specs.declared.message.Posts.{Posts}
 use Rattle.rows.specs.declared.message.Part.TheVariants.{Member, Newcomer}
 use Rattle.rows.specs.declared.row.Applied.{Applied}
 use Rattle.rows.specs.declared.row.Reference.{Reference}
@@ -23,14 +24,16 @@ use Rattle.stores.specs.declared.page.Mode.{Mode}
 use Rattle.stores.specs.declared.page.Mode.TheVariants.{Waiting, Joining, Normal, Reconfiguration}
 use Rattle.stores.specs.declared.page.Page.{Page}
 use Rattle.stores.specs.declared.view.Head.{Head}
-use Rattle.stores.specs.declared.view.Recorded.{Recorded}
+use Rattle.stores.specs.declared.view.Recorded.{Recorded as RecordedView}
 use Rattle.stores.specs.declared.view.View.{View}
+use Rattle.stores.specs.Views.{recorded as recorded_view}
+use Rattle.manager.specs.Effects.{recorded_message}
 use Rattle.manager.specs.Hearing.{base_of, above}
 use Rattle.manager.specs.Requests.{Request}
 use Rattle.manager.specs.Requests.Request.{view, delivery, loss, start, stop}
 use Rattle.manager.specs.Verdicts.{need_of, unheard, nobody, sources_of, possible_senders, asked, need_met, heard_of}
 use Rattle.manager.specs.declared.need.Need.{Need}
-use Rattle.laws.specs.Known.{Known}
+use Rattle.laws.specs.Known.{Known, last_of}
 
 -- ---- what is known of newcomers, States, members and a round
 -- every newcomer, a member of the head outside these survivors, is known to have recorded
@@ -59,7 +62,8 @@ Carried f k survivors set = f (both k.recorders.members.0 survivors.0) set ≡ t
 
 -- of these survivors those known to have recorded as members, with those not lost, do not carry a set
 abbrev pub Uncarriable : (ℕ → ℕ → Bool) → Known → ReplicaSet → ℕ → Type 0
-Uncarriable f k survivors set = f (either (both k.recorders.members.0 survivors.0) (less survivors.0 k.lost.0)) set ≡ false
+Uncarriable f k survivors set =
+    f (either (both k.recorders.members.0 survivors.0) (less survivors.0 k.lost.0)) set ≡ false
 
 -- what a waiting replica knows
 abbrev pub applied_of : Known → Applied
@@ -72,7 +76,8 @@ NoSources r h k = nobody (sources_of r h (applied_of k)) ≡ true
 -- States known and those who may still send one are fewer than needed
 abbrev pub TooFewSenders : Need → ℕ → Head → Known → Type 0
 TooFewSenders need r h k =
-    size (either k.states.0 (possible_senders r k.lost.0 h (applied_of k) k.reference)) < need_of need (asked r h (applied_of k) k.reference)
+    size (either k.states.0 (possible_senders r k.lost.0 h (applied_of k) k.reference)) <
+    need_of need (asked r h (applied_of k) k.reference)
 
 -- a waiting replica does not know as many States as needed
 abbrev pub NeedUnmet : Need → Known → Type 0
@@ -106,6 +111,17 @@ abbrev pub RecordingGrounds : Need → Head → Known → Option View → ℕ �
 RecordingGrounds need h k component n Member = MemberRecords need h k component n
 RecordingGrounds need h k component n Newcomer = NewcomerRecords need k component n
 
+-- a view is recorded: the head's set and stamp under a number that the last message tells, with the grounds for it
+pub record RecordedBy (need : Need) (r : ℕ) (head : Option Head) (k : Known) (component : Option View)
+    (recorded : Option RecordedView) (posts : Posts) : Type 0 where
+  pub under : Head
+  pub is : head ≡ Some under
+  pub number : ℕ
+  pub part : Part
+  pub view : recorded ≡ Some (recorded_view number under.set.0 under.stamp.0)
+  pub told : last_of posts ≡ Some (recorded_message r under number part)
+  pub grounds : RecordingGrounds need under k component number part
+
 -- ---- installing
 -- a member: recording members among the survivors carry the component view's set
 pub record MemberInstalls (f : ℕ → ℕ → Bool) (k : Known) (component : Option View) : Type 0 where
@@ -126,23 +142,30 @@ InstallingGrounds f h k component = MemberInstalls f k component ⊎ NewcomerIns
 
 -- ---- why a head closes before its view is installed or its round ends
 -- The mode becomes reconfiguration.
-pub data GivingUp (f : ℕ → ℕ → Bool) (need : Need) (h : Head) (k : Known) (component : Option View) (recorded : Option Recorded) : Type 0 where
+pub data GivingUp (f : ℕ → ℕ → Bool) (need : Need) (h : Head) (k : Known) (component : Option View)
+    (recorded : Option RecordedView) : Type 0 where
   -- a member can no longer know as many States as needed
-  too_few_states : (c : View) (its : component ≡ Some c) (few : TooFewStates need k c.set.0) → GivingUp f need h k component recorded
+  too_few_states : (c : View) (its : component ≡ Some c) (few : TooFewStates need k c.set.0)
+      → GivingUp f need h k component recorded
   -- it has recorded, and its component view can no longer be carried
-  member_uncarriable : (c : View) (its : component ≡ Some c) (held : under_head h recorded ≡ true) (lacks : Uncarriable f k k.survivors c.set.0)
+  member_uncarriable : (c : View) (its : component ≡ Some c) (held : under_head h recorded ≡ true)
+      (lacks : Uncarriable f k k.survivors c.set.0)
       → GivingUp f need h k component recorded
   -- a newcomer has recorded, as all have, and its reference can no longer be carried
-  newcomer_uncarriable : (x : Reference) (without : component ≡ None) (its : k.reference ≡ Some x) (held : under_head h recorded ≡ true)
-      (all : AllRecorded h x.survivors k) (lacks : Uncarriable f k x.survivors x.component.set.0) → GivingUp f need h k component recorded
+  newcomer_uncarriable : (x : Reference) (without : component ≡ None) (its : k.reference ≡ Some x)
+      (held : under_head h recorded ≡ true) (all : AllRecorded h x.survivors k)
+      (lacks : Uncarriable f k x.survivors x.component.set.0)
+      → GivingUp f need h k component recorded
 
 -- Page and mode stay.
 pub data Leaving (need : Need) (r : ℕ) (h : Head) (k : Known) (component : Option View) (mode : Mode) : Type 0 where
   -- a member knows States enough, and a newcomer is lost unheard
-  newcomer_lost : (c : View) (its : component ≡ Some c) (normal : mode ≡ Normal) (enough : EnoughStates need k c.set.0) (gone : LostUnheard h k.survivors k)
+  newcomer_lost : (c : View) (its : component ≡ Some c) (normal : mode ≡ Normal)
+      (enough : EnoughStates need k c.set.0) (gone : LostUnheard h k.survivors k)
       → Leaving need r h k component mode
   -- a waiting replica has no sources, or can no longer know as many States as needed
-  no_sources : (waiting : mode ≡ Waiting) (unmet : NeedUnmet need k) (none : NoSources r h k) → Leaving need r h k component mode
+  no_sources : (waiting : mode ≡ Waiting) (unmet : NeedUnmet need k) (none : NoSources r h k)
+      → Leaving need r h k component mode
   too_few_senders : (waiting : mode ≡ Waiting) (few : TooFewSenders need r h k) → Leaving need r h k component mode
 
 -- A newcomer that recorded waits again, since another newcomer is lost unheard.

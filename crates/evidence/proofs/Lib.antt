@@ -1,0 +1,3 @@
+pub mod Views
+pub mod References
+pub mod Heads

@@ -1,5 +1,0 @@
-use Rattle.laws.proofs.Views.{recordings_rest}
-use Rattle.laws.proofs.recording_rests_on_what_is_known.Goals as goal
-
-pub returns : goal.returns
-returns c = recordings_rest
