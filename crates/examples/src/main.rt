@@ -2,22 +2,23 @@
 // beside it the worked examples of rules and rounds.
 #![tactic(auto)]
 
+mod actions;
 mod examples;
 mod failures;
 mod history;
 mod play;
+mod show;
 mod table;
-mod told;
 
 use anyhow::Result;
 use std::io::{BufWriter, Write};
 
 fn main(rt: HostRuntime) -> Result<()> {
     let mut output = BufWriter::new(rt.alloc(), rt.stdout())?;
-    history::tell(rt.alloc(), &mut output)?;
-    examples::tell(rt.alloc(), &mut output)?;
-    failures::tell(rt.alloc(), &mut output)?;
-    table::tell(&mut output)?;
+    history::show(rt.alloc(), &mut output)?;
+    examples::show(rt.alloc(), &mut output)?;
+    failures::show(rt.alloc(), &mut output)?;
+    table::show(&mut output)?;
     output.flush()?;
     Ok(())
 }

@@ -1,6 +1,6 @@
 // A floor on which replicas 1 to 7 play. A call that is refused where the history wants it accepted, and a round that ends where none
 // should, are errors, which end the program.
-use anyhow::{Result, anyhow, bail};
+use anyhow::{Result, bail};
 use floor::Floor;
 use manager::Need;
 use quorum::{CountRule, Failure, Replica, ReplicaSet};
@@ -68,7 +68,7 @@ pub type Ended = Option<(Outcome, Option<View>)>;
 pub struct Play {
     floor: Floor<CountRule, HeldPages>,
     post: Vec<Message>,
-    // What is played, for an error.
+    // The name of what is played, which an error tells.
     scene: &'static str,
 }
 
@@ -76,9 +76,9 @@ impl Play {
     pub fn found(heap: Global, first: View, need: Need) -> Result<Play> {
         let mut floor = Floor::new(CountRule, HeldPages::new());
         let mut post = Vec::new(heap);
-        floor
-            .found(&mut post, first, need)
-            .map_err(|fault| anyhow!("the founding: {fault}"))?;
+        if let Err(fault) = floor.found(&mut post, first, need) {
+            bail!("the founding: {fault}");
+        }
         Ok(Play {
             floor,
             post,
@@ -129,7 +129,10 @@ impl Play {
     }
 
     fn is_up(&self, replica: u8) -> bool {
-        self.floor.row(replica).is_some_and(|row| row.up)
+        match self.floor.row(replica) {
+            Some(row) => row.up,
+            None => false,
+        }
     }
 
     // The whole group fails: whoever is up crashes.

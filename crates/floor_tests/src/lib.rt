@@ -1,11 +1,7 @@
-// A history of a group of replicas, with its failures and recoveries, played through the floor's public calls.
+// What no print of a program shows of the floor: a floor of weights, and calls that are made as one list.
 #![tactic(auto)]
 
 #[cfg(test)]
-mod failures;
-#[cfg(test)]
-mod history;
-#[cfg(test)]
-mod play;
+mod evenings;
 #[cfg(test)]
 mod weights;

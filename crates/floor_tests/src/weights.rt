@@ -1,8 +1,7 @@
 // A floor with the weight rule.
-use super::play::view;
 use floor::Floor;
 use manager::Need;
-use quorum::{Failure, Layer, Reason, Replica, WeightRule};
+use quorum::{Failure, Layer, Reason, Replica, ReplicaSet, WeightRule};
 use runs::{Call, Work};
 use std::process::Abort;
 use std::test::Fail;
@@ -31,10 +30,14 @@ fn a_weight_of_zero_is_refused_by_the_rule(rt: HostRuntime) {
 fn one_that_weighs_more_than_half_goes_on_alone(rt: HostRuntime) -> Result<(), Fail> {
     let mut floor = weighted(HEAVY)?;
     let mut post = Vec::new(rt.alloc());
-    floor.found(&mut post, view(0, &[1, 2, 3]), Need::One)?;
+    let first = View {
+        number: Number(0),
+        set: ReplicaSet(0b1110),
+    };
+    floor.found(&mut post, first, Need::One)?;
     let head = Head {
         stamp: Stamp(1),
-        set: view(0, &[2]).set,
+        set: ReplicaSet(0b100),
     };
     floor.apply(&mut post, Call::Whole(Work::View(2, head)))?;
     let component = floor.page(2).and_then(|page| page.component);
