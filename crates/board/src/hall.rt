@@ -1,5 +1,7 @@
-// The state of a program: the floor with its post, the views installed on it, and how many calls were accepted and refused.
-ghost use Rattle.std.specs.Prelude.{◌≡◌, ◌<◌, [], false, replicate, vec_len, vec_capacity, MatchResult, OnOk};
+// The state of a program: the floor with its post, the views installed on it, and how many calls were
+// accepted and refused.
+ghost use Rattle.std.specs.Prelude.{◌≡◌, ◌<◌, [], false, replicate, MatchResult, OnOk};
+ghost use Rattle.std.specs.Prelude.{vec_len, vec_capacity};
 ghost use Rattle.stores.specs.Kept.{fresh};
 ghost use Rattle.board.specs.Plays.{floor_of, messages_of, is_founded};
 
@@ -91,7 +93,8 @@ impl Hall {
 
     // A new floor with the weight rule; the old floor stays where a weight is zero.
     fn weigh(&mut self, weights: [u8; 16]) -> Result<(), Failure>
-        ensures { MatchResult result (λ _. (floor_of self.new.play).store.pages ≡ replicate 16 fresh) (λ _. self.new ≡ self.old) }
+        ensures { MatchResult result
+            (λ _. (floor_of self.new.play).store.pages ≡ replicate 16 fresh) (λ _. self.new ≡ self.old) }
     {
         self.open(ChosenRule::Weight(WeightRule::new(weights)?));
         Ok(())
