@@ -82,10 +82,10 @@ lost_told k q (Reports m) = (refl, refl)
 agrees_itself : (lost more survivors : ReplicaSet) (s : Stage) →
     AgreesIn (record (heard_in (nothing_heard lost survivors) s) { lost = more }) s
 agrees_itself lost more survivors Idle = tt
-agrees_itself lost more survivors (Gathering h g) = (refl, refl)
-agrees_itself lost more survivors (Confirming h g) = refl
-agrees_itself lost more survivors (Applying h a) = (refl, refl, refl, refl)
-agrees_itself lost more survivors (Entering h e) = (refl, refl)
+agrees_itself lost more survivors (Gathering h g) = (refl, refl, refl)
+agrees_itself lost more survivors (Confirming h g) = (refl, refl)
+agrees_itself lost more survivors (Applying h a) = (refl, refl, refl, refl, refl)
+agrees_itself lost more survivors (Entering h e) = (refl, refl, refl)
 agrees_itself lost more survivors (Round h rs) = refl
 
 -- ---- a replica stops, and starts

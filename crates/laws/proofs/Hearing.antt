@@ -139,7 +139,7 @@ module _ (r : ℕ) (p : Page) (up : Bool) (lost survivors : ReplicaSet) (tests :
               recorders = f.recorders;
             });
         same = refl;
-        known = (refl, refl);
+        known = (refl, refl, refl);
         enters = λ n. n;
         leaves = λ n. n;
         hearing = tt;
@@ -160,7 +160,7 @@ module _ (r : ℕ) (p : Page) (up : Bool) (lost survivors : ReplicaSet) (tests :
                   part f.recorders;
             });
         same = refl;
-        known = (refl, refl);
+        known = (refl, refl, refl);
         enters = λ n. n;
         leaves = λ n. n;
         hearing = tt;
@@ -171,7 +171,7 @@ module _ (r : ℕ) (p : Page) (up : Bool) (lost survivors : ReplicaSet) (tests :
       (record {
         stage = gathering_back r p h g f;
         same = refl;
-        known = (refl, refl);
+        known = (refl, refl, refl);
         enters = λ n. n;
         leaves = λ n. n;
         hearing = answer f.head.holds (ap reporting_mode (mode_normal p.mode f.normal));
@@ -196,7 +196,7 @@ module _ (r : ℕ) (p : Page) (up : Bool) (lost survivors : ReplicaSet) (tests :
                   f.recorders;
             });
         same = refl;
-        known = refl;
+        known = (refl, refl);
         enters = λ n. n;
         leaves = λ n. n;
         hearing = tt;
@@ -207,7 +207,7 @@ module _ (r : ℕ) (p : Page) (up : Bool) (lost survivors : ReplicaSet) (tests :
       (record {
         stage = confirming_back r p h g f;
         same = refl;
-        known = refl;
+        known = (refl, refl);
         enters = λ n. n;
         leaves = λ n. n;
         hearing = answer f.head.holds (ap reporting_mode (mode_normal p.mode f.normal));
@@ -236,7 +236,7 @@ module _ (r : ℕ) (p : Page) (up : Bool) (lost survivors : ReplicaSet) (tests :
               states = added a.states f.states;
             });
         same = refl;
-        known = (refl, refl, refl, refl);
+        known = (refl, refl, refl, refl, refl);
         enters = λ n. n;
         leaves = λ n. n;
         hearing = tt;
@@ -244,7 +244,7 @@ module _ (r : ℕ) (p : Page) (up : Bool) (lost survivors : ReplicaSet) (tests :
   applying_hears a Abort k f = record {
     stage = applying_back r p h a f;
     same = refl;
-    known = (refl, refl, refl, refl);
+    known = (refl, refl, refl, refl, refl);
     enters = λ n. n;
     leaves = λ n. n;
     hearing = (refl, mode_waiting p.mode f.waiting, λ n. n);
@@ -262,7 +262,7 @@ module _ (r : ℕ) (p : Page) (up : Bool) (lost survivors : ReplicaSet) (tests :
               states = f.states;
             });
         same = refl;
-        known = (refl, refl, refl, refl);
+        known = (refl, refl, refl, refl, refl);
         enters = λ n. n;
         leaves = λ n. n;
         hearing = tt;
@@ -290,7 +290,7 @@ module _ (r : ℕ) (p : Page) (up : Bool) (lost survivors : ReplicaSet) (tests :
                   e.recorders part f.recorders;
             });
         same = refl;
-        known = (refl, refl);
+        known = (refl, refl, refl);
         enters = λ n. n;
         leaves = λ n. n;
         hearing = tt;

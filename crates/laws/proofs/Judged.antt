@@ -45,11 +45,12 @@ use Rattle.stores.proofs.Kept.{Tests}
 -- of a stage, what is read of it
 abbrev pub AgreesIn : Known → Stage → Type 0
 AgreesIn k Idle = Unit {0}
-AgreesIn k (Gathering h g) = (k.states ≡ g.states) × (k.recorders ≡ g.recorders)
-AgreesIn k (Confirming h g) = k.recorders ≡ g.recorders
+AgreesIn k (Gathering h g) = (k.states ≡ g.states) × (k.recorders ≡ g.recorders) × (k.recorded ≡ false)
+AgreesIn k (Confirming h g) = (k.recorders ≡ g.recorders) × (k.recorded ≡ true)
 AgreesIn k (Applying h a) =
     (k.states ≡ a.states) × (k.joins ≡ a.joins) × (k.reference ≡ a.reference) × (k.recorders ≡ no_recorders)
-AgreesIn k (Entering h e) = (k.recorders ≡ e.recorders) × (k.reference ≡ Some e.reference)
+    × (k.recorded ≡ false)
+AgreesIn k (Entering h e) = (k.recorders ≡ e.recorders) × (k.reference ≡ Some e.reference) × (k.recorded ≡ true)
 AgreesIn k (Round h rs) = k.reports ≡ rs
 
 pub record Agrees (k : Known) (w : Row) : Type 0 where
@@ -101,24 +102,24 @@ module _ (f : ℕ → ℕ → Bool) (need : Need) (r : ℕ) (h : Head) (k : Know
   gathering_chain P false false false false o x y z = z refl refl
 
   module _ (t : Tests r p) where
-    gathering_fits : (g : Gathered) → p.mode ≡ Normal → (o : Option View) → p.component ≡ o →
+    gathering_fits : (g : Gathered) → k.recorded ≡ false → p.mode ≡ Normal → (o : Option View) → p.component ≡ o →
         Fits (Gathering h g) (with_component o
         (gathering_verdict need k.survivors.0 k.lost.0 h
         (record { states = k.states; recorders = k.recorders; answered = g.answered })))
-    gathering_fits g m None e = tt
-    gathering_fits g m (Some c) e =
+    gathering_fits g n m None e = tt
+    gathering_fits g n m (Some c) e =
         let needed = need_of need (size c.set.0) in
         let possible = size (either k.states.0 (less k.survivors.0 k.lost.0)) in
         let missing = unheard h k.survivors.0 k.recorders in
         gathering_chain (Fits (Gathering h g)) (ltb possible needed) (ltb (size k.states.0) needed) (nobody missing)
         (nobody (both missing k.lost.0)) tt
-        (λ i. (has_view r p t (apart p.mode m), too_few_states c e (ltb-true possible needed i), λ n. n))
+        (λ i. (has_view r p t (apart p.mode m), too_few_states c e n (ltb-true possible needed i), λ x. x))
         (λ i j. λ d b. inr (
           j,
           subst (λ (v : View). EnoughStates need k v.set.0) (some_same e b)
               (ltb-false (size k.states.0) needed i),
         ))
-        (λ i j. (ap is_joining m, newcomer_lost c e m (ltb-false (size k.states.0) needed i) j, λ n. n))
+        (λ i j. (ap is_joining m, newcomer_lost c e m n (ltb-false (size k.states.0) needed i) j, λ x. x))
 
     -- ---- confirming and entering
     carrying_chain : (P : Verdict → Type 0) (a b : Bool) → P Stays → (a ≡ true → P Installs) →
@@ -136,15 +137,15 @@ module _ (f : ℕ → ℕ → Bool) (need : Need) (r : ℕ) (h : Head) (k : Know
         carrying_chain (Fits s) (f (both k.recorders.members.0 survivors.0) set)
         (f (either (both k.recorders.members.0 survivors.0) (less survivors.0 k.lost.0)) set) o x y
 
-    confirming_fits : (g : Confirmed) → p.mode ≡ Normal → under_head h p.recorded ≡ true → (o : Option View) →
-        p.component ≡ o →
+    confirming_fits : (g : Confirmed) → k.recorded ≡ true → p.mode ≡ Normal → under_head h p.recorded ≡ true →
+        (o : Option View) → p.component ≡ o →
         Fits (Confirming h g) (with_component o
         (λ c. carrying_verdict f (both k.recorders.members.0 k.survivors.0) k.survivors.0 k.lost.0 c.set.0))
-    confirming_fits g m u None e = tt
-    confirming_fits g m u (Some c) e =
+    confirming_fits g n m u None e = tt
+    confirming_fits g n m u (Some c) e =
         carrying_fits (Confirming h g) k.survivors c.set.0 tt
-        (λ i. (u, inl (record { view = c; is = e; carried = i }), λ n. n))
-        (λ i. (has_view r p t (apart p.mode m), member_uncarriable c e u i, λ n. n))
+        (λ i. (u, inl (record { view = c; is = e; held = n; carried = i }), λ x. x))
+        (λ i. (has_view r p t (apart p.mode m), member_uncarriable c e n u i, λ x. x))
 
     -- ---- applying
     applying_chain : (P : Verdict → Type 0) (a b c : Bool) → P Stays → (a ≡ true → P Records) →
@@ -166,16 +167,16 @@ module _ (f : ℕ → ℕ → Bool) (need : Need) (r : ℕ) (h : Head) (k : Know
         unset true e = absurd cc
         unset false e = refl
 
-    applying_fits : (a : Applied) → p.mode ≡ Waiting →
+    applying_fits : (a : Applied) → k.recorded ≡ false → p.mode ≡ Waiting →
         Fits (Applying h a) (applying_verdict need r k.lost.0 h (applied_of k))
-    applying_fits a m =
+    applying_fits a n m =
         let possible = size (either k.states.0 (possible_senders r k.lost.0 h (applied_of k) k.reference)) in
         let needed = need_of need (asked r h (applied_of k) k.reference) in
         applying_chain (Fits (Applying h a)) (need_met need (applied_of k) k.reference)
         (nobody (sources_of r h (applied_of k))) (ltb possible needed) tt
         (λ i. enough k.reference i)
-        (λ i j. (ap is_joining m, no_sources m i j, λ n. n))
-        (λ i. (ap is_joining m, too_few_senders m (ltb-true possible needed i), λ n. n))
+        (λ i j. (ap is_joining m, no_sources m n i j, λ x. x))
+        (λ i. (ap is_joining m, too_few_senders m n (ltb-true possible needed i), λ x. x))
 
     -- ---- entering
     entering_chain : (P : Verdict → Type 0) (v : Verdict) (a b : Bool) → P Stays → (a ≡ true → P v) →
@@ -188,18 +189,18 @@ module _ (f : ℕ → ℕ → Bool) (need : Need) (r : ℕ) (h : Head) (k : Know
     absent m None s e i = refl
     absent m (Some c) s e i = absurd (let j = rw e at i in cc)
 
-    entering_fits : (e : Entered) (x : Reference) → k.reference ≡ Some x → p.mode ≡ Joining →
+    entering_fits : (e : Entered) (x : Reference) → k.recorded ≡ true → k.reference ≡ Some x → p.mode ≡ Joining →
         under_head h p.recorded ≡ true →
         Fits (Entering h e) (entering_verdict f k.lost.0 h (record { reference = x; recorders = k.recorders }))
-    entering_fits e x i m u =
+    entering_fits e x n i m u =
         let none = absent p.mode p.component (is_some p.recorded) m t.mode in
         let missing = unheard h x.survivors.0 k.recorders in
         entering_chain (Fits (Entering h e)) (carrying_verdict f (both k.recorders.members.0 x.survivors.0)
         x.survivors.0 k.lost.0 x.component.set.0) (nobody missing) (nobody (both missing k.lost.0)) tt
         (λ all. carrying_fits (Entering h e) x.survivors x.component.set.0 tt
-        (λ j. (u, inr (record { without = none; reference = x; is = i; all = all; carried = j }), λ n. n))
-        (λ j. (has_view r p t (joining_apart p.mode m), newcomer_uncarriable x none i u all j, λ n. n)))
-        (λ j. (ap is_joining m, record { without = none; reference = x; is = i; gone = j }, λ n. n))
+        (λ j. (u, inr (record { without = none; reference = x; is = i; held = n; all = all; carried = j }), λ y. y))
+        (λ j. (has_view r p t (joining_apart p.mode m), newcomer_uncarriable x none i n u all j, λ y. y)))
+        (λ j. (ap is_joining m, record { without = none; reference = x; is = i; held = n; gone = j }, λ y. y))
 
     -- ---- a round
     round_chain : (P : Verdict → Type 0) (v : Verdict) (a b : Bool) → P Stays → (b ≡ true → P v) →
@@ -242,7 +243,7 @@ module _ (f : ℕ → ℕ → Bool) (need : Need) (r : ℕ) (h : Head) (k : Know
         rw heads (subst (λ (z : Gathered). Fits (Gathering h g)
         (with_component p.component (gathering_verdict need k.survivors.0 k.lost.0 h z)))
         (same_gathered g k.states k.recorders a.0 a.1)
-        (gathering_fits g (mode_normal p.mode x.normal) p.component refl))
+        (gathering_fits g a.2 (mode_normal p.mode x.normal) p.component refl))
     stage_fits up l (Confirming h' g) e a i =
         let heads : h' ≡ h = some_same refl e in
         let x = confirming_from r p h' g i in
@@ -250,18 +251,18 @@ module _ (f : ℕ → ℕ → Bool) (need : Need) (r : ℕ) (h : Head) (k : Know
         rw heads (subst (λ (z : Recorders). Fits (Confirming h g)
         (with_component p.component (λ c. carrying_verdict f (both z.members.0 k.survivors.0) k.survivors.0 k.lost.0
         c.set.0)))
-        a (confirming_fits g (mode_normal p.mode x.normal) under p.component refl))
+        a.0 (confirming_fits g a.1 (mode_normal p.mode x.normal) under p.component refl))
     stage_fits up l (Applying h' b) e a i =
         let heads : h' ≡ h = some_same refl e in
         let x = applying_from r p h' b i in
         rw heads (subst (λ (z : Applied). Fits (Applying h b) (applying_verdict need r k.lost.0 h z))
-        (same_applied b k.states k.joins k.reference a.0 a.1 a.2) (applying_fits b (mode_waiting p.mode x.waiting)))
+        (same_applied b k.states k.joins k.reference a.0 a.1 a.2) (applying_fits b a.4 (mode_waiting p.mode x.waiting)))
     stage_fits up l (Entering h' g) e a i =
         let heads : h' ≡ h = some_same refl e in
         let x = entering_from r p h' g i in
         let under = rw heads at x.under in
         rw heads (subst (λ (z : Entered). Fits (Entering h g) (entering_verdict f k.lost.0 h z))
-        (same_entered g k.recorders a.0) (entering_fits g g.reference a.1 (mode_joining p.mode x.joining) under))
+        (same_entered g k.recorders a.0) (entering_fits g g.reference a.2 a.1 (mode_joining p.mode x.joining) under))
     stage_fits up l (Round h' rs) e a i =
         let heads : h' ≡ h = some_same refl e in
         let x = round_from r p h' rs i in

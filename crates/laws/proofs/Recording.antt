@@ -125,11 +125,16 @@ module _ (f : ℕ → ℕ → Bool) (need : Need) (r : ℕ) (h : Head) (k : Know
         (record {
           lost = st.known.lost;
           survivors = st.known.survivors;
-          stage = ap
-              (λ (u : Recorders). recorders_with u r Member) heard.1;
+          stage = (ap (λ (u : Recorders). recorders_with u r Member) heard.1, refl);
         })
-        enters (λ b. absurd b) (record { view = c; is = sym st.component ∙ e; next = refl; known = may }) z.head.holds
-        (omega arith) (omega arith)
+        enters (λ b. absurd b) (record {
+          view = c;
+          is = sym st.component ∙ e;
+          next = refl;
+          once = heard.2;
+          known = may;
+        })
+        z.head.holds (omega arith) (omega arith)
 
     member_recorded : (g : Gathered) → w.stage ≡ Gathering h g → GatheringFacts r p h g →
         MayRecord need h k p.component (Gathering h g) → (o : Option View) → p.component ≡ o →
@@ -177,10 +182,17 @@ module _ (f : ℕ → ℕ → Bool) (need : Need) (r : ℕ) (h : Head) (k : Know
         (record {
           lost = st.known.lost;
           survivors = st.known.survivors;
-          stage = (ap (λ (v : Recorders). recorders_with v r Newcomer) heard.3, heard.2 ∙ e);
+          stage = (ap (λ (v : Recorders). recorders_with v r Newcomer) heard.3, heard.2 ∙ e, refl);
         })
         enters (λ b. absurd b)
-        (record { without = sym st.component ∙ none; reference = x; is = heard.2 ∙ e; next = refl; enough = may })
+        (record {
+          without = sym st.component ∙ none;
+          reference = x;
+          is = heard.2 ∙ e;
+          next = refl;
+          once = heard.4;
+          enough = may;
+        })
         z.head.holds (omega arith) (omega arith)
 
     newcomer_recorded : (a : Applied) → w.stage ≡ Applying h a → ApplyingFacts r p h a →

@@ -137,7 +137,7 @@ module _ (f : ℕ → ℕ → Bool) (need : Need) (r : ℕ) (p : Page) (w : Row)
         joins = within_none h.set.0;
         states = within_none h.set.0;
       })))
-      (record { lost = refl; survivors = refl; stage = (refl, refl, refl, refl) }) (λ n. n) (λ n. n))
+      (record { lost = refl; survivors = refl; stage = (refl, refl, refl, refl, refl) }) (λ n. n) (λ n. n))
 
   -- ---- normal, with the component view c
   module _ (m : p.mode ≡ Normal) (c : View) (e : p.component ≡ Some c) where
@@ -170,7 +170,8 @@ module _ (f : ℕ → ℕ → Bool) (need : Need) (r : ℕ) (p : Page) (w : Row)
           states = within_alone h.set.0 r a.member;
           recorders = recorders_none h.set.0;
         })))
-        (record { lost = refl; survivors = refl; stage = (refl, refl) }) (λ lacks. absurd (both_ways _ lacks carry))
+        (record { lost = refl; survivors = refl; stage = (refl, refl, refl) })
+        (λ lacks. absurd (both_ways _ lacks carry))
         (λ n. absurd n)
 
     members : Goes (taken_up r p w h Normal) Thin (member_takes_up f need r (topped p h) (thinned w h) h c)

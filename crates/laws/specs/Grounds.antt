@@ -91,12 +91,13 @@ LostOne h k = nobody (both k.lost.0 h.set.0) ≡ false
 abbrev pub AllReported : Head → Known → Type 0
 AllReported h k = within h.set.0 (heard_of k.reports) ≡ true
 
--- ---- recording under the number n, with or without a component view
+-- ---- recording under the number n, with or without a component view, what was not recorded yet
 -- a member: no newcomers, or all of them recorded and States enough
 pub record MemberRecords (need : Need) (h : Head) (k : Known) (component : Option View) (n : ℕ) : Type 0 where
   pub view : View
   pub is : component ≡ Some view
   pub next : n ≡ view.number.0 + 1
+  pub once : k.recorded ≡ false
   pub known : NoNewcomers h k ⊎ (AllRecorded h k.survivors k × EnoughStates need k view.set.0)
 
 -- a newcomer: States enough of the reference's set
@@ -105,8 +106,10 @@ pub record NewcomerRecords (need : Need) (k : Known) (component : Option View) (
   pub reference : Reference
   pub is : k.reference ≡ Some reference
   pub next : n ≡ reference.component.number.0 + 1
+  pub once : k.recorded ≡ false
   pub enough : EnoughStates need k reference.component.set.0
 
+-- in either part
 abbrev pub RecordingGrounds : Need → Head → Known → Option View → ℕ → Part → Type 0
 RecordingGrounds need h k component n Member = MemberRecords need h k component n
 RecordingGrounds need h k component n Newcomer = NewcomerRecords need k component n
@@ -122,11 +125,12 @@ pub record RecordedBy (need : Need) (r : ℕ) (head : Option Head) (k : Known) (
   pub told : last_of posts ≡ Some (recorded_message r under number part)
   pub grounds : RecordingGrounds need under k component number part
 
--- ---- installing
+-- ---- installing what is recorded
 -- a member: recording members among the survivors carry the component view's set
 pub record MemberInstalls (f : ℕ → ℕ → Bool) (k : Known) (component : Option View) : Type 0 where
   pub view : View
   pub is : component ≡ Some view
+  pub held : k.recorded ≡ true
   pub carried : Carried f k k.survivors view.set.0
 
 -- a newcomer: every newcomer recorded, and recording members among the reference's survivors carry the reference's set
@@ -134,9 +138,11 @@ pub record NewcomerInstalls (f : ℕ → ℕ → Bool) (h : Head) (k : Known) (c
   pub without : component ≡ None
   pub reference : Reference
   pub is : k.reference ≡ Some reference
+  pub held : k.recorded ≡ true
   pub all : AllRecorded h reference.survivors k
   pub carried : Carried f k reference.survivors reference.component.set.0
 
+-- as either
 abbrev pub InstallingGrounds : (ℕ → ℕ → Bool) → Head → Known → Option View → Type 0
 InstallingGrounds f h k component = MemberInstalls f k component ⊎ NewcomerInstalls f h k component
 
@@ -144,35 +150,37 @@ InstallingGrounds f h k component = MemberInstalls f k component ⊎ NewcomerIns
 -- The mode becomes reconfiguration.
 pub data GivingUp (f : ℕ → ℕ → Bool) (need : Need) (h : Head) (k : Known) (component : Option View)
     (recorded : Option RecordedView) : Type 0 where
-  -- a member can no longer know as many States as needed
-  too_few_states : (c : View) (its : component ≡ Some c) (few : TooFewStates need k c.set.0)
+  -- a member has not recorded, and can no longer know as many States as needed
+  too_few_states : (c : View) (its : component ≡ Some c) (yet : k.recorded ≡ false) (few : TooFewStates need k c.set.0)
       → GivingUp f need h k component recorded
   -- it has recorded, and its component view can no longer be carried
-  member_uncarriable : (c : View) (its : component ≡ Some c) (held : under_head h recorded ≡ true)
-      (lacks : Uncarriable f k k.survivors c.set.0)
+  member_uncarriable : (c : View) (its : component ≡ Some c) (held : k.recorded ≡ true)
+      (under : under_head h recorded ≡ true) (lacks : Uncarriable f k k.survivors c.set.0)
       → GivingUp f need h k component recorded
   -- a newcomer has recorded, as all have, and its reference can no longer be carried
   newcomer_uncarriable : (x : Reference) (without : component ≡ None) (its : k.reference ≡ Some x)
-      (held : under_head h recorded ≡ true) (all : AllRecorded h x.survivors k)
+      (held : k.recorded ≡ true) (under : under_head h recorded ≡ true) (all : AllRecorded h x.survivors k)
       (lacks : Uncarriable f k x.survivors x.component.set.0)
       → GivingUp f need h k component recorded
 
 -- Page and mode stay.
 pub data Leaving (need : Need) (r : ℕ) (h : Head) (k : Known) (component : Option View) (mode : Mode) : Type 0 where
-  -- a member knows States enough, and a newcomer is lost unheard
-  newcomer_lost : (c : View) (its : component ≡ Some c) (normal : mode ≡ Normal)
+  -- a member has not recorded and knows States enough, and a newcomer is lost unheard
+  newcomer_lost : (c : View) (its : component ≡ Some c) (normal : mode ≡ Normal) (yet : k.recorded ≡ false)
       (enough : EnoughStates need k c.set.0) (gone : LostUnheard h k.survivors k)
       → Leaving need r h k component mode
   -- a waiting replica has no sources, or can no longer know as many States as needed
-  no_sources : (waiting : mode ≡ Waiting) (unmet : NeedUnmet need k) (none : NoSources r h k)
+  no_sources : (waiting : mode ≡ Waiting) (yet : k.recorded ≡ false) (unmet : NeedUnmet need k) (none : NoSources r h k)
       → Leaving need r h k component mode
-  too_few_senders : (waiting : mode ≡ Waiting) (few : TooFewSenders need r h k) → Leaving need r h k component mode
+  too_few_senders : (waiting : mode ≡ Waiting) (yet : k.recorded ≡ false) (few : TooFewSenders need r h k)
+      → Leaving need r h k component mode
 
 -- A newcomer that recorded waits again, since another newcomer is lost unheard.
 pub record Forgetting (h : Head) (k : Known) (component : Option View) : Type 0 where
   pub without : component ≡ None
   pub reference : Reference
   pub is : k.reference ≡ Some reference
+  pub held : k.recorded ≡ true
   pub gone : LostUnheard h reference.survivors k
 
 -- ---- a round

@@ -1,5 +1,5 @@
 -- What a replica knows under a head once a call has brought its part, before the head is judged. Assumes nothing.
-use Rattle.std.specs.Prelude.{ℕ, List, [], Some, None, Option, slice_set}
+use Rattle.std.specs.Prelude.{ℕ, Bool, true, false, List, [], Some, None, Option, slice_set}
 use Rattle.quorum.specs.Sets.{nobody_set, both, single}
 use Rattle.quorum.specs.declared.set.ReplicaSet.{ReplicaSet}
 use Rattle.rounds.specs.declared.report.Report.{Report}
@@ -26,7 +26,7 @@ use Rattle.manager.specs.Requests.{Request}
 use Rattle.manager.specs.Requests.Request.{view, delivery, loss, start, stop}
 
 -- What is known under a head: whose State, who recorded and in what part, whose Join, the reference of a newcomer, the
--- reports of a round, who is lost, and who survives.
+-- reports of a round, who is lost, who survives, and whether the head is recorded.
 pub record Known : Type 0 where
   pub states : ReplicaSet
   pub recorders : Recorders
@@ -35,9 +35,10 @@ pub record Known : Type 0 where
   pub reports : List (Option Report)
   pub lost : ReplicaSet
   pub survivors : ReplicaSet
+  pub recorded : Bool
 
 -- ---- what a row has
--- nothing but who is lost and who survives
+-- nothing but who is lost and who survives; no head is recorded
 abbrev pub nothing_heard : ReplicaSet → ReplicaSet → Known
 nothing_heard lost survivors = record {
   states = nobody_set;
@@ -47,15 +48,16 @@ nothing_heard lost survivors = record {
   reports = [];
   lost = lost;
   survivors = survivors;
+  recorded = false;
 }
 
--- what was heard in a stage
+-- what was heard in a stage; confirming and entering have recorded the head
 abbrev pub heard_in : Known → Stage → Known
 heard_in k Idle = k
 heard_in k (Gathering h g) = record k { states = g.states; recorders = g.recorders }
-heard_in k (Confirming h g) = record k { recorders = g.recorders }
+heard_in k (Confirming h g) = record k { recorders = g.recorders; recorded = true }
 heard_in k (Applying h a) = record k { states = a.states; joins = a.joins; reference = a.reference }
-heard_in k (Entering h e) = record k { recorders = e.recorders; reference = Some e.reference }
+heard_in k (Entering h e) = record k { recorders = e.recorders; reference = Some e.reference; recorded = true }
 heard_in k (Round h rs) = record k { reports = rs }
 
 abbrev pub known_in : Row → Known
@@ -111,7 +113,7 @@ part_told (Some m) = part_in m.body
 -- with replica r, if it recorded, in this part
 abbrev pub with_own : ℕ → Known → Option Part → Known
 with_own r k None = k
-with_own r k (Some part) = record k { recorders = recorders_with k.recorders r part }
+with_own r k (Some part) = record k { recorders = recorders_with k.recorders r part; recorded = true }
 
 -- what is known with the replica's own Recorded counted, where the call posts one
 abbrev pub counted : ℕ → Known → Posts → Known
