@@ -8,13 +8,6 @@ use Rattle.stores.specs.declared.view.Number.{Number}
 use Rattle.stores.specs.declared.view.Recorded.{Recorded}
 use Rattle.stores.specs.declared.view.View.{View}
 
--- each mode's number
-abbrev pub mode_number : Mode → ℕ
-mode_number Waiting = 1
-mode_number Joining = 2
-mode_number Normal = 3
-mode_number Reconfiguration = 4
-
 -- waiting has neither view, joining only the recorded one, normal the component view, reconfiguration at least one
 abbrev pub mode_fits : Mode → Bool → Bool → Bool
 mode_fits Waiting component recorded = not component && not recorded

@@ -2,18 +2,12 @@
 ghost use Rattle.std.specs.Prelude.{◌≡◌, ◌↔◌, IsTrue};
 ghost use Rattle.stores.specs.Facts.{PageRules};
 ghost use Rattle.stores.specs.Kept.{fresh};
-ghost use Rattle.stores.specs.Rules.{mode_number, mode_fits, marked, mark_fits, component_fits, recorded_fits, numbers_follow, keeps_rules};
+ghost use Rattle.stores.specs.Rules.{mode_fits, marked, mark_fits, component_fits, recorded_fits, numbers_follow, keeps_rules};
 
 use super::page::{Mode, Page};
 use super::view::{Number, Recorded, Stamp, View};
 
 impl Mode {
-    pub fn number(self) -> u8
-        ensures { result ≡ mode_number self }
-    {
-        self as u8
-    }
-
     // Whether a page of this mode has these views.
     fn fits(self, component: bool, recorded: bool) -> bool
         ensures { result ≡ mode_fits self component recorded }
