@@ -197,12 +197,17 @@ turned_quiet r p w x e t =
     ⊎_elim (λ i. subst P i (refl, refl, refl)) (λ i. subst P i (refl, refl, refl)) t.is
 
 pub components_follow : ComponentsFollow
-components_follow f need r p w x e d =
-    ⊎_elim
-    (λ g. subst (λ o. Follows f r o (counted r (known r p w x) e.answer.posts) p e) (sym g.is)
-    (course_shown f need r g.head (known r p w x) p (InRound f p w x) x e g.course).component)
-    (λ g. inl (turned_quiet r p w x e g).0)
-    (call_goes f need r p w x e d)
+components_follow = record {
+  follows = λ f need r p w x e d.
+      ⊎_elim
+      (λ g. subst (λ o. Follows f r o (counted r (known r p w x) e.answer.posts) p e) (sym g.is)
+      (course_shown f need r g.head (known r p w x) p (InRound f p w x) x e g.course).component)
+      (λ g. inl (turned_quiet r p w x e g).0)
+      (call_goes f need r p w x e d);
+  left = λ f need r p w x e d headless.
+      ⊎_elim (λ g. absurd (none_some headless g.is)) (λ g. (turned_quiet r p w x e g).0)
+      (call_goes f need r p w x e d);
+}
 
 pub recordings_rest : RecordingsRest
 recordings_rest f need r p w x e d =

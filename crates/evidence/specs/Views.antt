@@ -84,10 +84,12 @@ pub record Recording (f : ℕ → ℕ → Bool) (need : Need) (r : ℕ) (head : 
       last_of e.answer.posts ≡ Some (recorded_message r h n part) → RecordingGrounds need h k p.component n part
 
 -- ---- the laws
--- the component view changes only by installing or settling, or goes with a spare
-abbrev pub ComponentsFollow : Type 0
-ComponentsFollow =
-    EveryCall (λ f need r p w q e. Follows f r (head_under w q) (counted r (known r p w q) e.answer.posts) p e)
+-- the component view changes only by installing or settling, or goes with a spare; a start and a stop, which work under no
+-- head, leave it
+pub record ComponentsFollow : Type 0 where
+  pub follows : EveryCall (λ f need r p w q e.
+      Follows f r (head_under w q) (counted r (known r p w q) e.answer.posts) p e)
+  pub left : EveryCall (λ f need r p w q e. head_under w q ≡ None → e.page.component ≡ p.component)
 
 -- the recorded view changes only by recording, or goes; a Recorded is posted only on its grounds
 abbrev pub RecordingsRest : Type 0
