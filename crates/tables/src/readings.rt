@@ -71,23 +71,29 @@ fn kept_out(rt: HostRuntime) {
     assert_eq!(rt; carry_out_held(&mut store, &[write(17, 7)]), 0);
 }
 
-// A cut at 7 leaves the old page where two places are left, and the new one where one is. With no place left every write
-// and every cut is refused, and changes nothing.
+// Three places, which these writings use. With no place left every write and every cut is refused, and changes nothing.
+fn count_down(rt: &impl Abort, store: &mut CountedPages, second: Writing, third: Writing) {
+    let writings = [write(1, 7), cut(1, 8, 3), second, third, write(3, 7)];
+    assert_eq!(rt; carry_out(store, &writings), 4);
+    check_read(rt, store, 1, normal(7));
+    check_read(rt, store, 2, normal(7));
+    check_read(rt, store, 3, Page::fresh());
+    assert_eq!(rt; store.places(), 0);
+}
+
+// A cut has its place from the fourth byte-write on, and its page from the eighth.
 #[test]
 fn counted_down(rt: HostRuntime) -> Result<(), Fail> {
     let mut store = CountedPages::new(rt.alloc(), 3)?;
-    let writings = [
-        write(1, 7),
-        cut(1, 8, 3),
-        cut(1, 9, 7),
-        cut(2, 7, 7),
-        write(3, 7),
-    ];
-    assert_eq!(rt; carry_out(&mut store, &writings), 4);
-    check_read(&rt, &store, 1, normal(7));
-    check_read(&rt, &store, 2, normal(7));
-    check_read(&rt, &store, 3, Page::fresh());
-    assert_eq!(rt; store.places(), 0);
+    count_down(&rt, &mut store, cut(1, 9, 4), cut(2, 7, 8));
+    Ok(())
+}
+
+// A cut at 7 leaves the old page where two places are left, and the new one where one is.
+#[test]
+fn counted_down_at_seven(rt: HostRuntime) -> Result<(), Fail> {
+    let mut store = CountedPages::new(rt.alloc(), 3)?;
+    count_down(&rt, &mut store, cut(1, 9, 7), cut(2, 7, 7));
     Ok(())
 }
 
