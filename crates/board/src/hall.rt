@@ -7,7 +7,7 @@ ghost use Rattle.board.specs.Plays.{floor_of, messages_of, is_founded};
 
 use super::play::Play;
 use manager::{Answer, Need};
-use quorum::{ChosenRule, Failure, QuorumRule, Replica, WeightRule};
+use quorum::{ChosenRule, Failure, Fault, QuorumRule, Replica, WeightRule};
 use rounds::End;
 use rows::{Message, Posts};
 use runs::Call;
@@ -103,12 +103,21 @@ impl Hall {
     // The first view is installed by founding.
     fn found(&mut self, view: View, need: Need) -> Result<(), Failure> {
         self.make_room()?;
+        self.play.floor().check_founding(view)?;
+        self.begin(view, need)?;
+        self.note_installed(view);
+        Ok(())
+    }
+
+    // A floor is large and is moved into its session: a function by itself, so that a refused founding moves none.
+    #[inline(never)]
+    fn begin(&mut self, view: View, need: Need) -> Result<(), Fault>
+        ensures installed { self.new.installed ≡ self.old.installed }
+    {
         let new = Play::new(self.rule, self.alloc);
         let (play, founded) = mem::replace(&mut self.play, new).found(view, need);
         self.play = play;
-        founded?;
-        self.note_installed(view);
-        Ok(())
+        founded
     }
 
     // Room for one more installed view.

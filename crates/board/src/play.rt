@@ -83,6 +83,7 @@ impl Play {
     }
 
     // Makes a call. In a session the run that led here goes on by it, and has the three findings.
+    #[inline(always)]
     pub fn call(&mut self, call: Call) -> Result<Answer, Failure>
         ensures step { Step (chosen (floor_of self.old).rule)
             (world_of self.old) call result (world_of self.new) }

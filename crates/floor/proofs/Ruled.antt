@@ -122,8 +122,8 @@ module _ (f : ℕ → ℕ → Bool) (w : World) (k : Work) (r : ℕ) (t : Task) 
       )
 
   pub asked_done : (a : Accepted) (u : World) → Ok a.answer ≡ answer_of what → a.kept.replica ≡ r → a.kept.page ≡ page_left p what →
-      a.before ≡ row_at w.rows r → a.limited ≡ wants_room k → u ≡ moved → (e : Effect) × (asked f w k ≡ Ok e) × Ready f w k e a u
-  asked_done a u answer at page before limited left =
+      a.limited ≡ wants_room k → u ≡ moved → (e : Effect) × (asked f w k ≡ Ok e) × Ready f w k e a u
+  asked_done a u answer at page limited left =
       let yes = managed_accepted what a.answer answer in
       let e = yes.0 in (
         e,
@@ -131,7 +131,6 @@ module _ (f : ℕ → ℕ → Bool) (w : World) (k : Work) (r : ℕ) (t : Task) 
         record {
           replica_is = at ∙ handed.0;
           page_is = page ∙ ap (page_left p) yes.1;
-          before_is = before ∙ ap (row_at w.rows) handed.0;
           limited_is = limited;
           answer_is = yes.2;
           pages_are = ap (λ v. v.pages) left;
@@ -183,18 +182,18 @@ module _ (f : ℕ → ℕ → Bool) (w u : World) (k : Work) (e : Effect) (a : A
   allows t = ruled_by f w k e accepted ∙ none_refuses f w k e _ (sym crowd ∙ t.0) (rw ready.places_are at t.1)
 
   -- refused after the manager's work, the row is as it was
-  same : (v : World) → PutBack u a v → Same w v
-  same v b = record {
+  same : (before : Row) → before ≡ row_of f w (replica_of k) → (v : World) → PutBack u a before v → Same w v
+  same before at v b = record {
     pages_are = b.pages_are ∙ ready.pages_are;
-    rows_are = cc (b.rows_are, ready.rows_are, set-set w.rows (replica_of k) e.row (row_of f w (replica_of k)), set-get_or w.rows (replica_of k) (empty_row false));
+    rows_are = cc (b.rows_are, ready.replica_is, at, ready.rows_are, set-set w.rows (replica_of k) e.row (row_of f w (replica_of k)), set-get_or w.rows (replica_of k) (empty_row false));
     post_is = b.post_is ∙ ready.post_is;
     places_are = b.places_are ∙ ready.places_are;
     need_is = b.need_is ∙ ready.need_is;
   }
 
-  pub finished_did : (v : World) (r : Result Answer Failure) → Tested u a (unit_of r) → IfOk r (λ b. b ≡ a.answer) →
-      OnOk r (Stored u a v) → OnErr r (PutBack u a v) → (r ≡ Err NoMemory → 0 < length (listed a.answer.posts)) → Did f w k r v
-  finished_did v (Ok b) t answer s _ _ = (
+  pub finished_did : (before : Row) → before ≡ row_of f w (replica_of k) → (v : World) (r : Result Answer Failure) →
+      Tested u a (unit_of r) → IfOk r (λ b. b ≡ a.answer) → OnOk r (Stored u a v) → OnErr r (PutBack u a before v) → (r ≡ Err NoMemory → 0 < length (listed a.answer.posts)) → Did f w k r v
+  finished_did before at v (Ok b) t answer s _ _ = (
     e,
     allows t,
     answer ∙ ready.answer_is,
@@ -206,9 +205,9 @@ module _ (f : ℕ → ℕ → Bool) (w u : World) (k : Work) (e : Effect) (a : A
       need_is = s.need_is ∙ ready.need_is;
     },
   )
-  finished_did v (Err (Refused x)) t _ _ b _ = (refuses x t, same v b)
-  finished_did v (Err NoMemory) t _ _ b some =
-      (e, allows t, subst (λ (x : Answer). 0 < length (listed x.posts)) ready.answer_is (some refl), same v b)
+  finished_did before at v (Err (Refused x)) t _ _ b _ = (refuses x t, same before at v b)
+  finished_did before at v (Err NoMemory) t _ _ b some =
+      (e, allows t, subst (λ (x : Answer). 0 < length (listed x.posts)) ready.answer_is (some refl), same before at v b)
 
   -- where no memory was found, the capacity lacked room for what the call posts
   pub finished_lacks : (capacity : ℕ) (r : Result Answer Failure) → Tested u a (unit_of r) → r ≡ Err NoMemory →
@@ -217,9 +216,9 @@ module _ (f : ℕ → ℕ → Bool) (w u : World) (k : Work) (e : Effect) (a : A
       let tested : Tested u a (Err NoMemory) = subst (λ (x : Result Answer Failure). Tested u a (unit_of x)) none t in
       (e, allows tested, rw (ready.post_is, ready.answer_is) at lacks)
 
-  pub break_refused : (v : World) (x : Fault) → Tested u a (Err (Refused x)) → PutBack u a v →
-      (ruled f w k ≡ Err x) × Same w v
-  break_refused v x t b = (refuses x t, same v b)
+  pub break_refused : (before : Row) → before ≡ row_of f w (replica_of k) → (v : World) (x : Fault) →
+      Tested u a (Err (Refused x)) → PutBack u a before v → (ruled f w k ≡ Err x) × Same w v
+  break_refused before at v x t b = (refuses x t, same before at v b)
 
   pub break_done : (v : World) → Tested u a (Ok tt) → Broken u v a.kept.replica a.kept.page →
       (ruled f w k ≡ Ok e) × Broken w v (replica_of k) e.page

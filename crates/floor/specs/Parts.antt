@@ -5,7 +5,8 @@ use Rattle.quorum.specs.declared.fault.Failure.TheVariants.{Refused}
 use Rattle.quorum.specs.declared.fault.Fault.{Fault}
 use Rattle.manager.specs.Effects.{Effect}
 use Rattle.rows.specs.declared.message.Message.{Message}
-use Rattle.runs.specs.World.{World, replica_of, row_of, asked, listed, Posted, Same}
+use Rattle.rows.specs.declared.row.Row.{Row}
+use Rattle.runs.specs.World.{World, replica_of, asked, listed, Posted, Same}
 use Rattle.runs.specs.declared.work.Work.{Work}
 use Rattle.stores.specs.Kept.{Spent}
 use Rattle.floor.specs.Tasks.{wants_room}
@@ -23,7 +24,6 @@ Tested u a r = Posted (crowded a u.post) u.places a.kept.replica r
 pub record Ready (f : ℕ → ℕ → Bool) (w : World) (k : Work) (e : Effect) (a : Accepted) (u : World) : Type 0 where
   pub replica_is : a.kept.replica ≡ replica_of k
   pub page_is : a.kept.page ≡ e.page
-  pub before_is : a.before ≡ row_of f w (replica_of k)
   pub limited_is : a.limited ≡ wants_room k
   pub answer_is : a.answer ≡ e.answer
   pub pages_are : u.pages ≡ w.pages
@@ -53,10 +53,10 @@ pub record Torn (u : World) (a : Accepted) (v : World) : Type 0 where
   pub places_are : Spent u.places v.places
   pub need_is : v.need ≡ u.need
 
--- the row is put back
-pub record PutBack (u : World) (a : Accepted) (v : World) : Type 0 where
+-- the row is put back as it was before
+pub record PutBack (u : World) (a : Accepted) (before : Row) (v : World) : Type 0 where
   pub pages_are : v.pages ≡ u.pages
-  pub rows_are : v.rows ≡ slice_set u.rows a.kept.replica a.before
+  pub rows_are : v.rows ≡ slice_set u.rows a.kept.replica before
   pub post_is : v.post ≡ u.post
   pub places_are : v.places ≡ u.places
   pub need_is : v.need ≡ u.need

@@ -1,4 +1,6 @@
 // One call of any kind, with any arguments: the floor's public call, which carries the findings.
+// The functions that a call goes through are inlined into the caller's: page, row and answer are large, and pass through memory
+// where one function hands them to another.
 ghost use Rattle.std.specs.Prelude.{◌≡◌, ◌+◌, ◌<◌, ◌≤◌, List, [], ◌∷◌, ◌++◌, Err, vec_len, vec_capacity};
 ghost use Rattle.quorum.specs.declared.fault.Failure.TheVariants.{NoMemory};
 ghost use Rattle.runs.specs.Findings.{Findings};
@@ -21,6 +23,7 @@ impl<R: QuorumRule + Copy, S: Breakable> Floor<R, S> {
     // Makes one call; an accepted cut leaves of its page what the store says of its cuts. No memory is
     // found only where the post's capacity lacks room for what the call posts. Whatever run led here from
     // an accepted founding, its calls and this one have the three findings.
+    #[inline(always)]
     pub fn apply(&mut self, post: &mut Vec<Message>, call: Call) -> Result<Answer, Failure>
         ensures step { Step (R.QuorumRule.carries self.old.rule)
             (world S.Store.pages S.Store.places self.old post.old.items) call result
@@ -46,6 +49,7 @@ impl<R: QuorumRule + Copy, S: Breakable> Floor<R, S> {
         self.step(post, call)
     }
 
+    #[inline(always)]
     pub(crate) fn step(&mut self, post: &mut Vec<Message>, call: Call) -> Result<Answer, Failure>
         ensures step { Step (R.QuorumRule.carries self.old.rule)
             (world S.Store.pages S.Store.places self.old post.old.items) call result

@@ -18,6 +18,7 @@ use stores::{Breakable, Store};
 
 impl<R: QuorumRule + Copy, S: Breakable> Floor<R, S> {
     // The page's write is broken off; refused as the write would be.
+    #[inline(always)]
     fn cut_page(&mut self, post: &[Message], accepted: &Accepted, n: u64) -> Result<(), Fault>
         ensures test { Tested
             (world S.Store.pages S.Store.places self.old post.now) accepted.now (as_failure result) }
@@ -37,7 +38,14 @@ impl<R: QuorumRule + Copy, S: Breakable> Floor<R, S> {
     }
 
     // The row is stopped, or refused put back as it was before.
-    fn break_off(&mut self, post: &[Message], accepted: &Accepted, n: u64) -> Result<(), Fault>
+    #[inline(always)]
+    fn break_off(
+        &mut self,
+        post: &[Message],
+        accepted: &Accepted,
+        before: &Row,
+        n: u64,
+    ) -> Result<(), Fault>
         ensures test { Tested
             (world S.Store.pages S.Store.places self.old post.now) accepted.now (as_failure result) }
         ensures broken { OnOk result (Broken
@@ -48,7 +56,7 @@ impl<R: QuorumRule + Copy, S: Breakable> Floor<R, S> {
             (world S.Store.pages S.Store.places self.old post.now) accepted.now
             (world S.Store.pages S.Store.places self.new post.now)) }
         ensures refused { OnErr result (PutBack
-            (world S.Store.pages S.Store.places self.old post.now) accepted.now
+            (world S.Store.pages S.Store.places self.old post.now) accepted.now before.now
             (world S.Store.pages S.Store.places self.new post.now)) }
         ensures rule { self.new.rule ≡ self.old.rule }
     {
@@ -58,13 +66,14 @@ impl<R: QuorumRule + Copy, S: Breakable> Floor<R, S> {
                 Ok(())
             }
             Err(fault) => {
-                self.put_back(accepted.kept.replica, accepted.before);
+                self.put_back(accepted.kept.replica, *before);
                 Err(fault)
             }
         }
     }
 
     // The call is refused as it would be whole; accepted, nothing is posted and the row is stopped.
+    #[inline(always)]
     pub(crate) fn cut_off(
         &mut self,
         post: &[Message],
@@ -79,12 +88,14 @@ impl<R: QuorumRule + Copy, S: Breakable> Floor<R, S> {
             (world S.Store.pages S.Store.places self.new post.now)) }
         ensures rule { self.new.rule ≡ self.old.rule }
     {
+        let before = self.row_before(work);
         let accepted = self.accept(post, work)?;
-        self.break_off(post, &accepted, n)?;
+        self.break_off(post, &accepted, &before, n)?;
         Ok(Answer::quiet())
     }
 
     // A stop leaves the row down and empty; it writes no page.
+    #[inline(always)]
     pub(crate) fn halt(&mut self, replica: u8) -> Result<Answer, Failure>
         ensures stopped { (post : List Message) → Stopped (R.QuorumRule.carries self.old.rule)
             (world S.Store.pages S.Store.places self.old post) replica result

@@ -28,6 +28,7 @@ fn outgoing_count(posts: Posts) -> usize
 
 // Where the store has a place, room in the post for so many messages. Where it has none the write
 // will be refused, and no room is made, so that want of memory is told last.
+#[inline(always)]
 fn make_room<S: Store>(store: &S, post: &mut Vec<Message>, count: usize) -> Result<(), AllocError>
     ensures room { OnOk result
         (0 < S.places store.now → vec_len post.new + count ≤ vec_capacity post.new) }
@@ -44,6 +45,7 @@ fn make_room<S: Store>(store: &S, post: &mut Vec<Message>, count: usize) -> Resu
 }
 
 // Appends the messages, for which there is room.
+#[inline(always)]
 fn append(post: &mut Vec<Message>, posts: Posts)
     requires { vec_len post.old + length (listed posts) ≤ vec_capacity post.old }
     ensures items { post.new.items ≡ post.old.items ++ listed posts }
@@ -61,6 +63,7 @@ fn append(post: &mut Vec<Message>, posts: Posts)
 
 impl<R: QuorumRule + Copy, S: Breakable> Floor<R, S> {
     // The page is written, and the messages are posted; refused, nothing changes.
+    #[inline(always)]
     fn write_and_post(
         &mut self,
         post: &mut Vec<Message>,
@@ -87,6 +90,7 @@ impl<R: QuorumRule + Copy, S: Breakable> Floor<R, S> {
     }
 
     // A row is put back as it was.
+    #[inline(always)]
     pub(crate) fn put_back(&mut self, replica: Replica, before: Row)
         ensures { self.new ≡ record self.old {
           table = record { rows = slice_set self.old.table.rows replica before };
@@ -97,7 +101,13 @@ impl<R: QuorumRule + Copy, S: Breakable> Floor<R, S> {
     }
 
     // The end of a call that the manager accepted. Refused here, the row is put back as it was before.
-    fn finish(&mut self, post: &mut Vec<Message>, accepted: &Accepted) -> Result<Answer, Failure>
+    #[inline(always)]
+    fn finish(
+        &mut self,
+        post: &mut Vec<Message>,
+        accepted: &Accepted,
+        before: &Row,
+    ) -> Result<Answer, Failure>
         ensures test { Tested
             (world S.Store.pages S.Store.places self.old post.old.items) accepted.now (unit_of result) }
         ensures memory { result ≡ Err NoMemory
@@ -107,7 +117,7 @@ impl<R: QuorumRule + Copy, S: Breakable> Floor<R, S> {
             (world S.Store.pages S.Store.places self.old post.old.items) accepted.now
             (world S.Store.pages S.Store.places self.new post.new.items)) }
         ensures refused { OnErr result (PutBack
-            (world S.Store.pages S.Store.places self.old post.old.items) accepted.now
+            (world S.Store.pages S.Store.places self.old post.old.items) accepted.now before.now
             (world S.Store.pages S.Store.places self.new post.new.items)) }
         ensures rule { self.new.rule ≡ self.old.rule }
         ensures capacity { vec_capacity post.old ≤ vec_capacity post.new }
@@ -115,13 +125,14 @@ impl<R: QuorumRule + Copy, S: Breakable> Floor<R, S> {
         match self.write_and_post(post, accepted) {
             Ok(()) => Ok(accepted.answer),
             Err(failure) => {
-                self.put_back(accepted.kept.replica, accepted.before);
+                self.put_back(accepted.kept.replica, *before);
                 Err(failure)
             }
         }
     }
 
     // A call that is not cut off.
+    #[inline(always)]
     pub(crate) fn carry_out(
         &mut self,
         post: &mut Vec<Message>,
@@ -135,7 +146,8 @@ impl<R: QuorumRule + Copy, S: Breakable> Floor<R, S> {
         ensures rule { self.new.rule ≡ self.old.rule }
         ensures capacity { vec_capacity post.old ≤ vec_capacity post.new }
     {
+        let before = self.row_before(work);
         let accepted = self.accept(post, work)?;
-        self.finish(post, &accepted)
+        self.finish(post, &accepted, &before)
     }
 }

@@ -12,7 +12,7 @@ ghost use Rattle.quorum.specs.declared.fault.Reason.TheVariants.{ZeroWeight};
 ghost use Rattle.floor.specs.Worlds.{world};
 ghost use Rattle.rows.specs.Rows.{empty_row};
 
-use super::founding::{check_founding, founding_rows, write_founding};
+use super::founding::{check_founding, found_rows, write_founding};
 use lend::Table;
 use manager::Need;
 use quorum::{Fault, QuorumRule, Replica, WeightRule};
@@ -81,6 +81,14 @@ impl<R: QuorumRule + Copy, S: Breakable> Floor<R, S> {
         self.need
     }
 
+    // Whether the view may be founded here: refused as its founding is.
+    pub fn check_founding(&self, view: View) -> Result<(), Fault>
+        ensures { result ≡ allowed
+            (founding_refusal view (S.Store.pages self.now.store) (S.Store.places self.now.store)) }
+    {
+        check_founding(&self.store, view)
+    }
+
     // Founding: members of the set hold the first view, all sixteen replicas are up and idle, the post is
     // empty. It uses at most one place for each member.
     pub fn found(&mut self, post: &mut Vec<Message>, view: View, need: Need) -> Result<(), Fault>
@@ -96,9 +104,9 @@ impl<R: QuorumRule + Copy, S: Breakable> Floor<R, S> {
         ensures capacity { vec_capacity post.new ≡ vec_capacity post.old }
         ensures kept { OnErr result ((self.new ≡ self.old) × (post.new ≡ post.old)) }
     {
-        check_founding(&self.store, view)?;
+        self.check_founding(view)?;
         write_founding(&mut self.store, view)?;
-        self.table = Table::new(founding_rows(view));
+        found_rows(&mut self.table, view);
         self.need = need;
         post.clear();
         Ok(())

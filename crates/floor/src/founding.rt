@@ -1,5 +1,5 @@
 // Founding: the first view, on a store of fresh pages.
-ghost use Rattle.std.specs.Prelude.{◌≡◌, ◌≤◌, true, not, length, Ok};
+ghost use Rattle.std.specs.Prelude.{◌≡◌, ◌≤◌, true, not, length, Ok, slice_set};
 ghost use Rattle.quorum.specs.Below.{any};
 ghost use Rattle.quorum.specs.Members.{has, size};
 ghost use Rattle.stores.specs.Kept.{page_at, Written};
@@ -7,6 +7,7 @@ ghost use Rattle.stores.specs.Writings.{SpentBy};
 ghost use Rattle.runs.specs.Founding.{is_fresh, founding_refusal, founding_page, founding_row, FoundedPages, FoundedRows};
 ghost use Rattle.quorum.specs.Faults.{allowed};
 
+use lend::Table;
 use quorum::{Fault, Layer, Reason, Replica, ReplicaSet, refuse_if};
 use rows::Row;
 use stores::{KeptPage, Mode, Number, Page, Stamp, Store, View};
@@ -64,11 +65,22 @@ fn founding_row(view: View, replica: Replica) -> Row
     }
 }
 
-pub(crate) fn founding_rows(view: View) -> [Row; 16]
-    ensures rows { FoundedRows view result }
-    ensures sixteen { length result ≡ 16 }
+fn set_row(table: &mut Table<Row>, replica: Replica, row: Row)
+    ensures rows { table.new.rows ≡ slice_set table.old.rows replica row }
+    ensures sixteen { length table.old.rows ≡ 16 }
 {
-    Replica::all().map(|replica| founding_row(view, replica))
+    let place = table.row_mut(replica);
+    *place = row;
+}
+
+// Puts each row in its place, since sixteen rows, with a round's sixteen reports each, are much to copy.
+pub(crate) fn found_rows(table: &mut Table<Row>, view: View)
+    ensures rows { FoundedRows view table.new.rows }
+    ensures sixteen { length table.new.rows ≡ 16 }
+{
+    for replica in Replica::all() {
+        set_row(table, replica, founding_row(view, replica));
+    }
 }
 
 // Writes a member's page.

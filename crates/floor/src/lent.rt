@@ -12,6 +12,7 @@ use rows::Row;
 use stores::{Breakable, Page};
 
 // The manager does a task on a page and a row. Rule, need and replica come one by one, as the host's calls take them.
+#[inline(always)]
 fn manage<R: QuorumRule>(
     rule: &R,
     need: Need,
@@ -35,6 +36,7 @@ fn manage<R: QuorumRule>(
 
 impl<R: QuorumRule + Copy, S: Breakable> Floor<R, S> {
     // The rule is copied out, and the table lends one row to the manager.
+    #[inline(always)]
     pub(crate) fn lend(
         &mut self,
         replica: Replica,

@@ -90,6 +90,7 @@ impl<R: QuorumRule + Copy, S: Breakable> Session<R, S> {
     // Makes one call of any kind, with any arguments. Some run from an accepted founding led here, and
     // with this call it has the three findings, and its worlds are in order. With room for 65,536
     // messages no call finds no memory.
+    #[inline(always)]
     pub fn call(&mut self, call: Call) -> Result<Answer, Failure>
         ensures step { Step (R.QuorumRule.carries self.old.floor.rule)
             (world S.Store.pages S.Store.places self.old.floor self.old.post.items) call result

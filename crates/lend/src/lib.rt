@@ -34,6 +34,7 @@ impl<T> Table<T> {
     pub fn row_mut(&mut self, replica: Replica) -> &mut T
         ensures* follows { sem 𝓛 (follows (the_row T.row) T.row self.entry.ghost_name result.ghost_name (λ w. record { rows = slice_set self.old.rows replica w })) }
         ensures value { (d : T) → result.now ≡ slice_index_or self.old.rows replica d }
+        ensures sixteen { length self.old.rows ≡ 16 }
     {
         self.lend(replica.index())
     }

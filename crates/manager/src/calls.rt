@@ -112,6 +112,7 @@ pub fn deliver<R: QuorumRule>(
     terms.hear_and_follow(page, row, sender, message)
 }
 
+#[inline(always)]
 fn mark_lost(row: &mut Row, lost: u8)
     ensures { row.new ≡ losing row.old lost }
 {
@@ -119,6 +120,7 @@ fn mark_lost(row: &mut Row, lost: u8)
 }
 
 // A replica of the head is lost to this one.
+#[inline(always)]
 #[tactic(auto, unfolding(crate::specs::Calls::lost_at))]
 pub fn lose<R: QuorumRule>(
     rule: &R,
@@ -143,6 +145,7 @@ pub fn lose<R: QuorumRule>(
 }
 
 // The replica stops: its row is down and empty, its page as it was.
+#[inline(always)]
 #[tactic(auto, unfolding(crate::specs::Calls::stopped_at))]
 pub fn stop(replica: u8, page: &Page, row: &mut Row) -> Result<Answer, Fault>
     ensures answer { result ≡ answer_of (stopped_at replica page.now row.old) }
@@ -155,6 +158,7 @@ pub fn stop(replica: u8, page: &Page, row: &mut Row) -> Result<Answer, Fault>
 }
 
 // A start turns normal and joining into reconfiguration.
+#[inline(always)]
 fn turn_mode(page: &mut Page)
     ensures { page.new ≡ in_mode (started page.old.mode) page.old }
 {
@@ -165,6 +169,7 @@ fn turn_mode(page: &mut Page)
 }
 
 // The replica starts: its row is up and empty.
+#[inline(always)]
 #[tactic(auto, unfolding(crate::specs::Calls::started_at))]
 pub fn start(replica: u8, page: &mut Page, row: &mut Row) -> Result<Answer, Fault>
     ensures answer { result ≡ answer_of (started_at replica page.old row.old) }

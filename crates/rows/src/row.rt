@@ -112,6 +112,7 @@ pub struct Row {
 
 impl Row {
     // A row that is up, or down, and empty.
+    #[inline(always)]
     pub fn empty(up: bool) -> Row
         ensures { result ≡ empty_row up }
     {

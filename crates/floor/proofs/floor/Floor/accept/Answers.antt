@@ -9,7 +9,6 @@ use Rattle.floor.specs.Tasks.{lent}
 use Rattle.floor.specs.Worlds.{world}
 use Rattle.floor.proofs.Ruled.{asked_refused, asked_not, asked_done, managed_accepted, managed_keeps}
 use Rattle.floor.proofs.floor.Floor.accept.Goals as goal
-use Rattle.rows.specs.Rows.{empty_row}
 
 pub returns-in_err-replica-clause-asked : goal.returns-in_err-replica-clause-asked
 returns-in_err-replica-clause-asked g c =
@@ -44,6 +43,5 @@ returns-clause-asked g c =
     let w : World = world g.S.Store.pages g.S.Store.places c.args.self.now c.args.post.now in
     let task = c.in_ok-replica in
     let left = ap (λ s. world g.S.Store.pages g.S.Store.places s c.args.post.now) c.lend.ensures.floor in
-    let before = c.row-before.ensures.value (empty_row false) in
     asked_done (g.R.QuorumRule.carries c.args.self.now.rule) w c.args.work task.replica task.task _ task.ensures c.read-page.ensures
-    _ _ c.in_ok-answer.ensures.answer refl c.lend.ensures.page before c.wants_room.ensures left
+    _ _ c.in_ok-answer.ensures.answer refl c.lend.ensures.page c.wants_room.ensures left

@@ -1,6 +1,6 @@
-use Rattle.std.proofs.Common.{vec_items, arith}
+use Rattle.std.proofs.Common.{◌<◌, vec_items, arith}
 use Rattle.std.proofs.lemmas.Result.{err_from_is_err_and}
-use Rattle.runs.specs.World.{World}
+use Rattle.runs.specs.World.{World, replica_of}
 use Rattle.floor.specs.Worlds.{world}
 use Rattle.floor.proofs.Ruled.{ruled_refused, finished_did, finished_lacks}
 use Rattle.floor.proofs.floor.Floor.carry_out.Goals as goal
@@ -18,7 +18,8 @@ returns-clause-did g c =
     let f = g.R.QuorumRule.carries c.args.self.now.rule in
     let told = rw c.deref.ensures.value at c.in_ok-accepted.ensures.asked in
     let did = c.finish.ensures in
-    finished_did f _ _ c.args.work told.0 c.in_ok-accepted.accepted told.1 told.2 _ c.finish.result did.test did.answer did.stored did.refused
+    let within : replica_of c.args.work < 16 = omega (arith, c.in_ok-accepted.ensures.within, told.2.replica_is) in
+    finished_did f _ _ c.args.work told.0 c.in_ok-accepted.accepted told.1 told.2 _ (c.row_before-before.ensures within) _ c.finish.result did.test did.answer did.stored did.refused
     (λ h. omega (arith, did.memory h, c.args.post.now.ok.1))
 
 pub returns-clause-memory : goal.returns-clause-memory

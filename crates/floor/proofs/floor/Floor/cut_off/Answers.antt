@@ -1,6 +1,6 @@
-use Rattle.std.proofs.Common.{subst}
+use Rattle.std.proofs.Common.{◌<◌, subst, arith}
 use Rattle.std.proofs.lemmas.Result.{err_from_is_err_and}
-use Rattle.runs.specs.World.{World}
+use Rattle.runs.specs.World.{World, replica_of}
 use Rattle.floor.specs.Cuts.{LeftAt}
 use Rattle.floor.specs.Worlds.{world}
 use Rattle.floor.proofs.Ruled.{ruled_refused, break_refused, break_done, break_leaves}
@@ -19,8 +19,9 @@ returns-in_err-break_off-clause-cut g c =
     let f = g.R.QuorumRule.carries c.args.self.now.rule in
     let told = c.in_ok-accepted.ensures.asked in
     let broke = c.in_err-break_off.ensures in
+    let within : replica_of c.args.work < 16 = omega (arith, c.in_ok-accepted.ensures.within, told.2.replica_is) in
     let e = err_from_is_err_and c.from_residual-in_err-break_off.result c.from_residual-in_err-break_off.ensures.1 in
-    rw (e.1, e.2) (break_refused f _ _ c.args.work told.0 c.in_ok-accepted.accepted told.1 told.2 _ _ broke.test broke.refused)
+    rw (e.1, e.2) (break_refused f _ _ c.args.work told.0 c.in_ok-accepted.accepted told.1 told.2 _ (c.row_before-before.ensures within) _ _ broke.test broke.refused)
 
 pub returns-clause-cut : goal.returns-clause-cut
 returns-clause-cut g c =
