@@ -1,6 +1,6 @@
 // The state of a program: the floor with its post, the views installed on it, and how many calls were
 // accepted and refused.
-ghost use Rattle.std.specs.Prelude.{◌≡◌, ◌<◌, [], false, replicate, MatchResult, OnOk};
+ghost use Rattle.std.specs.Prelude.{◌≡◌, ◌<◌, [], false, replicate, true, MatchResult, OnErr, OnOk};
 ghost use Rattle.std.specs.Prelude.{vec_len, vec_capacity};
 ghost use Rattle.stores.specs.Kept.{fresh};
 ghost use Rattle.board.specs.Plays.{floor_of, messages_of, is_founded};
@@ -100,8 +100,12 @@ impl Hall {
         Ok(())
     }
 
-    // The first view is installed by founding.
-    fn found(&mut self, view: View, need: Need) -> Result<(), Failure> {
+    // The first view is installed by founding. Refused, floor and post are as they were.
+    fn found(&mut self, view: View, need: Need) -> Result<(), Failure>
+        ensures founded { OnOk result (is_founded self.new.play ≡ true) }
+        ensures kept { OnErr result ((floor_of self.new.play ≡ floor_of self.old.play)
+            × (messages_of self.new.play ≡ messages_of self.old.play)) }
+    {
         self.make_room()?;
         self.play.floor().check_founding(view)?;
         self.begin(view, need)?;
@@ -113,6 +117,9 @@ impl Hall {
     #[inline(never)]
     fn begin(&mut self, view: View, need: Need) -> Result<(), Fault>
         ensures installed { self.new.installed ≡ self.old.installed }
+        ensures founded { OnOk result (is_founded self.new.play ≡ true) }
+        ensures kept { OnErr result ((floor_of self.new.play ≡ floor_of self.old.play)
+            × (messages_of self.new.play ≡ messages_of self.old.play)) }
     {
         let new = Play::new(self.rule, self.alloc);
         let (play, founded) = mem::replace(&mut self.play, new).found(view, need);
@@ -122,7 +129,8 @@ impl Hall {
 
     // Room for one more installed view.
     fn make_room(&mut self) -> Result<(), Failure>
-        ensures { OnOk result (vec_len self.new.installed < vec_capacity self.new.installed) }
+        ensures room { OnOk result (vec_len self.new.installed < vec_capacity self.new.installed) }
+        ensures play { self.new.play ≡ self.old.play }
     {
         self.installed.reserve(1)?;
         Ok(())
@@ -159,6 +167,7 @@ impl Hall {
     // There is room for it.
     fn note_installed(&mut self, view: View)
         requires { vec_len self.old.installed < vec_capacity self.old.installed }
+        ensures { self.new.play ≡ self.old.play }
     {
         if !self.was_installed(view) {
             self.installed.push_reserved(view);

@@ -1,6 +1,6 @@
 // One call of any kind, with any arguments: the floor's public call, which carries the findings.
-// The functions that a call goes through are inlined into the caller's: page, row and answer are large, and pass through memory
-// where one function hands them to another.
+// The functions through which a call's page, row and answer pass are inlined: these are large, and pass through memory where one
+// function hands them to another.
 ghost use Rattle.std.specs.Prelude.{◌≡◌, ◌+◌, ◌<◌, ◌≤◌, List, [], ◌∷◌, ◌++◌, Err, vec_len, vec_capacity};
 ghost use Rattle.quorum.specs.declared.fault.Failure.TheVariants.{NoMemory};
 ghost use Rattle.runs.specs.Findings.{Findings};
