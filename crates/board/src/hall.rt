@@ -2,6 +2,8 @@
 // accepted and refused.
 ghost use Rattle.std.specs.Prelude.{◌≡◌, ◌<◌, [], false, replicate, true, MatchResult, OnErr, OnOk};
 ghost use Rattle.std.specs.Prelude.{vec_len, vec_capacity};
+ghost use Rattle.quorum.specs.Faults.{allowed};
+ghost use Rattle.runs.specs.Founding.{founding_refusal, Founding};
 ghost use Rattle.stores.specs.Kept.{fresh};
 ghost use Rattle.board.specs.Plays.{floor_of, messages_of, is_founded};
 
@@ -102,7 +104,9 @@ impl Hall {
 
     // The first view is installed by founding. Refused, floor and post are as they were.
     fn found(&mut self, view: View, need: Need) -> Result<(), Failure>
-        ensures founded { OnOk result (is_founded self.new.play ≡ true) }
+        ensures session { OnOk result (is_founded self.new.play ≡ true) }
+        ensures founded { OnOk result (Founding view need (floor_of self.new.play).store.pages
+            (floor_of self.new.play).table.rows (floor_of self.new.play).need (messages_of self.new.play)) }
         ensures kept { OnErr result ((floor_of self.new.play ≡ floor_of self.old.play)
             × (messages_of self.new.play ≡ messages_of self.old.play)) }
     {
@@ -117,7 +121,11 @@ impl Hall {
     #[inline(never)]
     fn begin(&mut self, view: View, need: Need) -> Result<(), Fault>
         ensures installed { self.new.installed ≡ self.old.installed }
-        ensures founded { OnOk result (is_founded self.new.play ≡ true) }
+        ensures answer { result ≡ allowed
+            (founding_refusal view (floor_of self.old.play).store.pages 65535) }
+        ensures session { OnOk result (is_founded self.new.play ≡ true) }
+        ensures founded { OnOk result (Founding view need (floor_of self.new.play).store.pages
+            (floor_of self.new.play).table.rows (floor_of self.new.play).need (messages_of self.new.play)) }
         ensures kept { OnErr result ((floor_of self.new.play ≡ floor_of self.old.play)
             × (messages_of self.new.play ≡ messages_of self.old.play)) }
     {

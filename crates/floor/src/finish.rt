@@ -8,6 +8,7 @@ ghost use Rattle.floor.specs.Worlds.{world};
 
 use super::accepted::Accepted;
 use super::floor::Floor;
+use super::founding::set_row;
 use manager::Answer;
 use quorum::{Failure, QuorumRule, Replica};
 use rows::{Message, Posts, Row};
@@ -96,8 +97,7 @@ impl<R: QuorumRule + Copy, S: Breakable> Floor<R, S> {
           table = record { rows = slice_set self.old.table.rows replica before };
         } }
     {
-        let row = self.table.row_mut(replica);
-        *row = before;
+        set_row(&mut self.table, replica, before);
     }
 
     // The end of a call that the manager accepted. Refused here, the row is put back as it was before.

@@ -12,12 +12,12 @@ ghost use Rattle.quorum.specs.declared.fault.Reason.TheVariants.{ZeroWeight};
 ghost use Rattle.floor.specs.Worlds.{world};
 ghost use Rattle.rows.specs.Rows.{empty_row};
 
-use super::founding::{check_founding, found_rows, write_founding};
+use super::founding::{any_used, found_rows, write_founding};
 use lend::Table;
 use manager::Need;
-use quorum::{Fault, QuorumRule, Replica, WeightRule};
+use quorum::{Fault, Layer, QuorumRule, Reason, Replica, WeightRule, refuse_if};
 use rows::{Message, Row};
-use stores::{Breakable, Page, Store, View};
+use stores::{Breakable, Number, Page, Store, View};
 
 #[derive(Drop)]
 pub struct Floor<R, S> {
@@ -86,7 +86,10 @@ impl<R: QuorumRule + Copy, S: Breakable> Floor<R, S> {
         ensures { result ≡ allowed
             (founding_refusal view (S.Store.pages self.now.store) (S.Store.places self.now.store)) }
     {
-        check_founding(&self.store, view)
+        let bad = view.set.is_empty() || view.number > Number::HIGHEST;
+        refuse_if(bad, Reason::BadFounding.by(Layer::Floor))?;
+        let used = self.store.places() < 16 || any_used(&self.store);
+        refuse_if(used, Reason::NotFresh.by(Layer::Floor))
     }
 
     // Founding: members of the set hold the first view, all sixteen replicas are up and idle, the post is

@@ -4,13 +4,12 @@ ghost use Rattle.quorum.specs.Below.{any};
 ghost use Rattle.quorum.specs.Members.{has, size};
 ghost use Rattle.stores.specs.Kept.{page_at, Written};
 ghost use Rattle.stores.specs.Writings.{SpentBy};
-ghost use Rattle.runs.specs.Founding.{is_fresh, founding_refusal, founding_page, founding_row, FoundedPages, FoundedRows};
-ghost use Rattle.quorum.specs.Faults.{allowed};
+ghost use Rattle.runs.specs.Founding.{is_fresh, founding_page, founding_row, FoundedPages, FoundedRows};
 
 use lend::Table;
-use quorum::{Fault, Layer, Reason, Replica, ReplicaSet, refuse_if};
+use quorum::{Fault, Replica, ReplicaSet};
 use rows::Row;
-use stores::{KeptPage, Mode, Number, Page, Stamp, Store, View};
+use stores::{KeptPage, Mode, Page, Stamp, Store, View};
 
 // The page of a replica that has done nothing yet.
 fn is_fresh(page: Page) -> bool
@@ -20,21 +19,12 @@ fn is_fresh(page: Page) -> bool
 }
 
 // Some page is not fresh.
-fn any_used<S: Store>(store: &S) -> bool
+pub(crate) fn any_used<S: Store>(store: &S) -> bool
     ensures { result ≡ any (λ r. not (is_fresh (page_at (S.pages store.now) r))) 16 }
 {
     Replica::all()
         .iter()
         .any(|replica| !is_fresh(store.read(*replica)))
-}
-
-pub(crate) fn check_founding<S: Store>(store: &S, view: View) -> Result<(), Fault>
-    ensures { result ≡ allowed (founding_refusal view (S.pages store.now) (S.places store.now)) }
-{
-    let bad = view.set.is_empty() || view.number > Number::HIGHEST;
-    refuse_if(bad, Reason::BadFounding.by(Layer::Floor))?;
-    let used = store.places() < 16 || any_used(store);
-    refuse_if(used, Reason::NotFresh.by(Layer::Floor))
 }
 
 // A member's page: normal, with the first view and its number as the mark.
@@ -65,7 +55,9 @@ fn founding_row(view: View, replica: Replica) -> Row
     }
 }
 
-fn set_row(table: &mut Table<Row>, replica: Replica, row: Row)
+// Puts a row in the replica's place.
+#[inline(always)]
+pub(crate) fn set_row(table: &mut Table<Row>, replica: Replica, row: Row)
     ensures rows { table.new.rows ≡ slice_set table.old.rows replica row }
     ensures sixteen { length table.old.rows ≡ 16 }
 {

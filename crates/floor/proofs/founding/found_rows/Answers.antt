@@ -1,4 +1,4 @@
-use Rattle.std.proofs.Common.{false, ◌≡◌, ℕ, ◌+◌, ◌<◌, List, length, set, sym, ap, ap₂, ◌∙◌, arith, ⊎_elim, slice_index_or}
+use Rattle.std.proofs.Common.{false, ◌≡◌, ◌<◌, List, length, set, sym, ap, ap₂, ◌∙◌, arith, ⊎_elim, slice_index_or}
 use Rattle.std.proofs.lemmas.List.{get_or-set_same, get_or-set_other, length-set}
 use Rattle.std.proofs.lemmas.Bool.{cases_eq}
 use Rattle.quorum.proofs.Below.{everybody_at}

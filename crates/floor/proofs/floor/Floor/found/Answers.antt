@@ -1,8 +1,6 @@
-use Rattle.std.proofs.Common.{List, length, sym, refl, ap, ◌∙◌, subst, rules}
-use Rattle.rows.specs.declared.row.Row.{Row}
+use Rattle.std.proofs.Common.{refl, rules}
 use Rattle.quorum.proofs.Refused.{was_allowed}
 use Rattle.runs.proofs.Founded.{founded}
-use Rattle.runs.specs.Founding.{FoundedRows}
 use Rattle.floor.proofs.Pages.{accepted_fresh, founded_all}
 use Rattle.floor.proofs.floor.Floor.found.Goals as goal
 
